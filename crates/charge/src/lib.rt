@@ -1,0 +1,2 @@
+//! What a position costs.
+pub mod charges;

@@ -1,0 +1,7 @@
+-- What a class stands for.
+use denote.Ref.{now}
+use Rattle.sheet.specs.declared.classes.Class.{Class}
+use Rattle.sheet.specs.Given.{Terms}
+
+abbrev pub plain : Class → Terms
+plain c = record { spread-rate = c .«spread_rate»; minimum-rate = c .«minimum_rate»; rows = now (c .series) }
