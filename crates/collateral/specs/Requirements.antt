@@ -23,7 +23,3 @@ owed-by s c a = cond (same-side (a .side) s) (getD (a .owed) (currency-number c)
 abbrev pub requirement-of : Side → Currency → List Statement → ℕ
 requirement-of s c [] = 0
 requirement-of s c (a ∷ rest) = owed-by s c a + requirement-of s c rest
-
--- each account owes at most 10^11 in each currency
-abbrev pub Modest : List Statement → Type 0
-Modest all = (i : ℕ) (d : Statement) → i < length all → (k : ℕ) → getD (getD all i d .owed) k 0 ≤ 100000000000

@@ -2,4 +2,5 @@
 pub mod calls;
 pub mod ledger;
 pub mod records;
+pub mod requirements;
 pub mod statements;
