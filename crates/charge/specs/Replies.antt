@@ -5,7 +5,8 @@ use lib.ListN.{length}
 use lib.IntN.{ℤ}
 use Rattle.std.specs.declared.result.Result.{Result}
 use Rattle.terms.specs.declared.faults.Fault.{Fault}
-use Rattle.charge.specs.Answers.{fits, answer}
+use Rattle.charge.specs.Positions.{fits}
+use Rattle.charge.specs.Answers.{answer}
 use Rattle.sheet.specs.Given.{Terms}
 use Rattle.charge.specs.Meanings.{Meaning}
 

@@ -18,10 +18,12 @@ use Rattle.std.specs.declared.result.Result.the-variants.{Ok, Err}
 use Rattle.std.specs.Options.{isSome}
 use Rattle.std.specs.Orderings.{isEq}
 use Rattle.std.specs.shelf.Lists.{leading}
-use Rattle.std.proofs.shelf.Tests.{ltb-true, lt-ltb}
+use Rattle.std.specs.Results.{isOk}
+use Rattle.std.proofs.shelf.Tests.{ltb-true, lt-ltb, true≢false}
 use Rattle.terms.specs.declared.words.Refusal.{Refusal}
+use Rattle.terms.specs.declared.words.Refusal.the-variants.{Twice, Full}
 use Rattle.terms.specs.Order.{order}
-use Rattle.register.specs.Rows.{inserted, entered, Entry, misses, sought}
+use Rattle.register.specs.Rows.{inserted, entered, Entry, misses, sought, place, answered}
 
 pub is-true : (b : Bool) → T b → b ≡ true
 is-true true h = refl
@@ -93,3 +95,23 @@ module _ {R : Type 0} (rank : R → List ℕ) (k : List ℕ) where
   pub known-entered : (r : Result ℕ Refusal) (xs : List R) (row : R) → isSome (sought rank k xs) ≡ true → isSome (sought rank k (entered r xs row)) ≡ true
   known-entered (Ok i) xs row e = known-inserted xs i row e
   known-entered (Err d) xs row e = e
+
+-- ---- what an answer says of the rows
+module _ {R : Type 0} (rank : R → List ℕ) (most : ℕ) (rows : List R) (row : R) where
+  ok-cases : (b c : Bool) (i n : ℕ) → Ok i ≡ cond b (Err Twice) (cond c (Ok n) (Err Full)) → (c ≡ true) × (i ≡ n)
+  ok-cases true c i n e = absurd (true≢false (ap isOk e))
+  ok-cases false true i n e = (refl, cc)
+  ok-cases false false i n e = absurd (true≢false (ap isOk e))
+
+  err-cases : (b c : Bool) (d : Refusal) (n : ℕ) → b ≡ false → Err d ≡ cond b (Err Twice) (cond c (Ok n) (Err Full)) → (c ≡ false) × (d ≡ Full)
+  err-cases true c d n f e = absurd (true≢false f)
+  err-cases false true d n f e = absurd (true≢false (sym (ap isOk e)))
+  err-cases false false d n f e = (refl, cc)
+
+  -- a row that was put in had room, and stands in its place
+  pub put-in : (i : ℕ) → Ok i ≡ answered rank most rows row → (ltb (length rows) most ≡ true) × (i ≡ place rank (rank row) rows)
+  put-in i e = ok-cases (isSome (sought rank (rank row) rows)) (ltb (length rows) most) i (place rank (rank row) rows) e
+
+  -- a row with a new key that was refused had no room
+  pub left-out : (d : Refusal) → isSome (sought rank (rank row) rows) ≡ false → Err d ≡ answered rank most rows row → (ltb (length rows) most ≡ false) × (d ≡ Full)
+  left-out d f e = err-cases (isSome (sought rank (rank row) rows)) (ltb (length rows) most) d (place rank (rank row) rows) f e

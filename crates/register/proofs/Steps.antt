@@ -2,7 +2,8 @@
 use mathlib.Core.Path.{_≡_, refl, sym, ap, subst, _∙_}
 use mathlib.Core.Bool.{Bool, true, false, not, cond}
 use mathlib.Core.List.{List, [], _∷_, _++_}
-use Prim.Native.Nat.{ℕ, zero, suc, _+_, _≤_, _<_}
+use mathlib.Core.Logic.{⊎-elim}
+use Prim.Native.Nat.{ℕ, zero, suc, min, _+_, _≤_, _<_}
 use native.Mathlib.Omega.{arith}
 use native.Mathlib.Numerals.{add-one}
 use lib.Dec.{ltb}
@@ -10,20 +11,28 @@ use lib.ListN.{length, getD, set, take, drop}
 use lib.Seq.{take-set-lt, length-take-le}
 use Rattle.std.specs.declared.cmp.Ordering.{Ordering}
 use Rattle.std.specs.declared.cmp.Ordering.the-variants.{Less, Equal, Greater}
-use Rattle.std.specs.declared.option.Option.{Option}
 use Rattle.std.specs.declared.option.Option.the-variants.{None, Some}
-use Rattle.std.proofs.shelf.Tests.{cond-below, cond-true, cond-false, lt-ltb}
+use Rattle.std.proofs.shelf.Tests.{cond-below, cond-true, cond-false, ltb-true, cases-lt}
 use Rattle.std.specs.Orderings.{isLt, isEq}
 use Rattle.std.specs.shelf.Lists.{leading}
 use Rattle.std.proofs.shelf.Sums.{leading-drop-yes, leading-drop-no, leading-drop-all, leading-le-length}
-use Rattle.std.proofs.shelf.Lists.{drop-set-lt, getD-take, take-at, drop-at}
+use Rattle.std.proofs.shelf.Lists.{drop-set-lt, getD-take, take-at, take-all, drop-at, length-take}
 use Rattle.std.proofs.shelf.Edits.{length-inserted}
-use Rattle.std.specs.declared.result.Result.{Result}
-use Rattle.std.specs.declared.result.Result.the-variants.{Ok, Err}
+use Rattle.std.specs.declared.result.Result.the-variants.{Ok}
 use Rattle.std.specs.Options.{isSome}
-use Rattle.terms.specs.declared.words.Refusal.{Refusal}
 use Rattle.terms.specs.Order.{order}
 use Rattle.register.specs.Rows.{inserted, place, sought, answered}
+
+-- ---- the front of the rows
+pub take-clamped : {R : Type 0} (xs : List R) (n k : ℕ) → k ≡ min n (length xs) → take k xs ≡ take n xs
+take-clamped xs n k e = ⊎-elim (λ lt. ap (λ i. take i xs) (omega arith)) (λ le. take-all k xs (omega arith) ∙ sym (take-all n xs le)) (cases-lt n (length xs))
+
+-- rows that have room are all in the memory, and below the limit
+pub room-below : {R : Type 0} (xs : List R) (n limit : ℕ) → ltb (length (take n xs)) (min limit (length xs)) ≡ true → (n < length xs) × (n < limit)
+room-below xs n limit e =
+    let short : length (take n xs) ≡ min n (length xs) = length-take n xs in
+    let lt : length (take n xs) < min limit (length xs) = ltb-true _ _ e in
+    (omega arith, omega arith)
 
 -- ---- a linear search
 module _ {R : Type 0} (p : R → Bool) (xs : List R) (i n : ℕ) (inv : i + leading p (drop i xs) ≡ n) where
@@ -89,5 +98,5 @@ module _ {R : Type 0} (rank : R → List ℕ) where
       let short : length (take n xs) ≡ n = length-take-le n xs le in
       omega (arith, leading-le-length (λ x. isLt (order (rank x) k)) (take n xs))
 
-  pub answered-ok : (xs : List R) (row : R) (most : ℕ) → isSome (sought rank (rank row) xs) ≡ false → length xs < most → Ok (place rank (rank row) xs) ≡ answered rank most xs row
-  answered-ok xs row most none lt = sym (cond-false _ _ _ none ∙ cond-true _ _ _ (lt-ltb _ _ lt))
+  pub answered-ok : (xs : List R) (row : R) (most : ℕ) → isSome (sought rank (rank row) xs) ≡ false → ltb (length xs) most ≡ true → Ok (place rank (rank row) xs) ≡ answered rank most xs row
+  answered-ok xs row most none lt = sym (cond-false _ _ _ none ∙ cond-true _ _ _ lt)

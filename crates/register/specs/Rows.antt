@@ -1,11 +1,10 @@
 -- Rows in ascending order of their rank, a list of numbers.
-use mathlib.Core.List.{List, [], _∷_, _++_}
+use mathlib.Core.List.{List, _∷_, _++_}
 use mathlib.Core.Path.{_≡_}
 use mathlib.Core.Bool.{cond, not}
-use Prim.Native.Nat.{ℕ, min, _≤_, _<_}
+use Prim.Native.Nat.{ℕ, suc, min, _≤_, _<_}
 use lib.Dec.{T, ltb}
 use lib.ListN.{length, take, drop, getD}
-use Rattle.std.specs.declared.cmp.Ordering.{Ordering}
 use Rattle.std.specs.declared.option.Option.{Option}
 use Rattle.std.specs.declared.option.Option.the-variants.{None, Some}
 use Rattle.std.specs.declared.result.Result.{Result}
@@ -34,25 +33,34 @@ misses rank k rows = leading (λ x. not (isEq (order (rank x) k))) rows
 abbrev pub sought : {R : Type 0} → (R → List ℕ) → List ℕ → List R → Option ℕ
 sought rank k rows = cond (ltb (misses rank k rows) (length rows)) (Some (misses rank k rows)) None
 
+-- the rows with one more at a place
 abbrev pub inserted : {R : Type 0} → List R → ℕ → R → List R
 inserted rows i row = take i rows ++ row ∷ drop i rows
 
--- what an entry answers: the row's place, unless a row has its key or the rows are `most` already
+-- what an entry answers: the row's place; refused Twice where a row has its key, else Full where the rows are `most` already
 abbrev pub answered : {R : Type 0} → (R → List ℕ) → ℕ → List R → R → Result ℕ Refusal
 answered rank most rows row = cond (isSome (sought rank (rank row) rows)) (Err Twice) (cond (ltb (length rows) most) (Ok (place rank (rank row) rows)) (Err Full))
 
--- the rows after it
+-- the rows after it: with the new one in its place, or as they were
 abbrev pub entered : {R : Type 0} → Result ℕ Refusal → List R → R → List R
 entered (Ok i) rows row = inserted rows i row
 entered (Err e) rows row = rows
 
--- an entry of the row into the first n of xs, where at most `limit` may stand, answered r and left the first n′ of xs′
+-- how many they are then
+abbrev pub counted : Result ℕ Refusal → ℕ → ℕ
+counted (Ok i) n = suc n
+counted (Err e) n = n
+
+-- an entry of the row into the first n of the memory xs, where at most `limit` may stand, answered r and left the first n′ of xs′
 pub record Entry {R : Type 0} (rank : R → List ℕ) (limit n : ℕ) (xs : List R) (row : R) (r : Result ℕ Refusal) (n′ : ℕ) (xs′ : List R) : Type 0 where
   pub answer : r ≡ answered rank (min limit (length xs)) (take n xs) row
+  pub count : n′ ≡ counted r n
   pub rows : take n′ xs′ ≡ entered r (take n xs) row
+  -- the memory past the rows is as it was
   pub spare : drop n′ xs′ ≡ drop n′ xs
-  pub within : n′ ≤ length xs′
   pub room : length xs′ ≡ length xs
+  -- what follows of rows that were within their memory and their limit, and in order
+  pub within : n ≤ length xs → n′ ≤ length xs′
   pub most : n ≤ limit → n′ ≤ limit
   pub sorted : Ascending rank (take n xs) → Ascending rank (take n′ xs′)
 

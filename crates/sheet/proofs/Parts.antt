@@ -1,16 +1,15 @@
 -- The series of a class stand together, since rows are in order of class first.
 use mathlib.Core.Path.{_≡_, refl, sym, ap, subst, _∙_}
-use mathlib.Core.Bool.{Bool, true, false, not, cond}
+use mathlib.Core.Bool.{not, cond}
 use mathlib.Core.List.{List, [], _∷_}
-use Prim.Native.Nat.{ℕ, zero, suc, _+_, _-_, _≤_, _<_}
+use Prim.Native.Nat.{ℕ, suc, _+_, _-_, _≤_}
 use native.Mathlib.Omega.{arith}
 use native.Mathlib.Numerals.{one-add}
-use native.Mathlib.Nat.{sub-zero}
-use lib.ListN.{length, getD, take, drop}
+use lib.ListN.{length, take, drop}
 use Rattle.std.specs.declared.cmp.Ordering.{Ordering}
 use Rattle.std.specs.declared.cmp.Ordering.the-variants.{Less, Equal, Greater}
 use Rattle.std.specs.Keys.{unsigned}
-use Rattle.std.specs.Lexical.{lex, lex-trans, lex-flip, lex-alike}
+use Rattle.std.specs.Lexical.{lex-trans, lex-flip, lex-alike}
 use Rattle.std.specs.Orderings.{isLt, isEq, isGt, thenBy, reversed}
 use Rattle.std.specs.Sorted.{Sorted}
 use Rattle.std.specs.shelf.Lists.{All, kept-by, leading}

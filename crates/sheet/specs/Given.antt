@@ -1,5 +1,5 @@
 -- The class that a charge is given.
-use mathlib.Core.List.{List, []}
+use mathlib.Core.List.{List}
 use Prim.Native.Nat.{ℕ}
 use lib.ListN.{getD}
 use Rattle.std.specs.declared.option.Option.{Option}
@@ -9,10 +9,11 @@ use Rattle.sheet.specs.declared.rows.ClassRow.{ClassRow}
 use Rattle.sheet.specs.declared.rows.Series.{Series}
 use Rattle.sheet.specs.Rows.{of-class}
 
--- the row at a place
+-- what stands where no row does
 abbrev pub no-class : ClassRow
 no-class = record { code = record { first = 0; second = 0; third = 0 }; currency = Hkd; «spread_rate» = None; «minimum_rate» = 0 }
 
+-- the row at a place
 abbrev pub class-at : List ClassRow → ℕ → ClassRow
 class-at rows i = getD rows i no-class
 

@@ -1,4 +1,6 @@
 pub mod Rows
 pub mod Limits
+pub mod State
+pub mod View
 pub mod Given
 pub mod Plain

@@ -16,6 +16,7 @@ use Rattle.register.specs.Rows.{sought}
 use Rattle.sheet.specs.declared.rows.ClassRow.{ClassRow}
 use Rattle.sheet.specs.declared.rows.Series.{Series}
 
+-- classes stand in order of code, series in order of key: class first
 abbrev pub class-rank : ClassRow → List ℕ
 class-rank r = lettered (r .code)
 
@@ -29,6 +30,7 @@ series-class s = lettered (s .key .class)
 abbrev pub of-class : Code → List Series → List Series
 of-class c rows = kept-by (λ s. isEq (order (series-class s) (lettered c))) rows
 
+-- a series of an earlier class; a series of an earlier class or of this one
 abbrev pub before : Code → Series → Bool
 before c s = isLt (order (series-class s) (lettered c))
 

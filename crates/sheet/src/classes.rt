@@ -1,4 +1,4 @@
-//! A class as it is given to a charge.
+//! A class as it is given to a charge: its rates and its series, all inside their limits.
 ghost use Rattle.sheet.specs.Limits.{Inside, Worthy};
 use crate::rows::Series;
 

@@ -1,4 +1,5 @@
-//! The market sheet.
+//! The market sheet: rates, classes and series, written as a draft and then sealed.
+pub mod calls;
 pub mod classes;
 pub mod drafts;
 pub mod limits;

@@ -1,16 +1,42 @@
 //! Where the series of a class stand.
 ghost use mathlib.Core.Path.{_≡_};
-ghost use mathlib.Core.List.{List};
-ghost use Prim.Native.Nat.{ℕ, _-_, _≤_};
-ghost use lib.ListN.{length, take, drop};
 ghost use Rattle.register.specs.Rows.{Ascending};
 ghost use Rattle.sheet.specs.Rows.{series-rank, before-class, through-class, of-class, Spanned};
 use crate::rows::Series;
 use std::cmp::Ordering;
 use terms::codes::Code;
 
+/// From one place up to, and without, another.
+#[derive(Clone, Copy)]
+pub struct Span {
+    pub from: usize,
+    pub to: usize,
+}
+
+/// Where the series of the class stand: together, since rows are in order of class first.
+pub(crate) fn span_of(rows: &[Series], code: &Code) -> Span
+    requires { ⌜ Ascending series-rank (now rows) ⌝ }
+    ensures value { λ r. ⌜ Spanned (now (code .entry)) (now (rows .entry)) (r .from) (r .to) ⌝ }
+{
+    let from = first_of(rows, code);
+    let to = end_of(rows, code);
+    Span { from, to }
+}
+
+/// The series of the class.
+pub(crate) fn part<'a>(rows: &'a [Series], code: &Code) -> &'a [Series]
+    requires { ⌜ Ascending series-rank (now rows) ⌝ }
+    ensures value { λ r. ⌜ now r ≡ of-class (now (code .entry)) (now (rows .entry)) ⌝ }
+{
+    let span = span_of(rows, code);
+    let from = span.from;
+    let to = span.to;
+    &rows[from..to]
+}
+
+/// How many rows stand before those of the class.
 fn first_of(rows: &[Series], code: &Code) -> usize
-    ensures { λ r. ⌜ r ≡ before-class (now (code .entry)) (now (rows .entry)) ⌝ }
+    ensures value { λ r. ⌜ r ≡ before-class (now (code .entry)) (now (rows .entry)) ⌝ }
 {
     for i in 0..rows.len() {
         match rows[i].key.class.compare(code) {
@@ -21,8 +47,9 @@ fn first_of(rows: &[Series], code: &Code) -> usize
     rows.len()
 }
 
+/// How many rows stand before those of any later class.
 fn end_of(rows: &[Series], code: &Code) -> usize
-    ensures { λ r. ⌜ r ≡ through-class (now (code .entry)) (now (rows .entry)) ⌝ }
+    ensures value { λ r. ⌜ r ≡ through-class (now (code .entry)) (now (rows .entry)) ⌝ }
 {
     for i in 0..rows.len() {
         match rows[i].key.class.compare(code) {
@@ -31,31 +58,4 @@ fn end_of(rows: &[Series], code: &Code) -> usize
         }
     }
     rows.len()
-}
-
-#[derive(Clone, Copy)]
-pub struct Span {
-    pub from: usize,
-    pub to: usize,
-}
-
-/// Where the series of the class stand, which is together.
-pub fn span_of(rows: &[Series], code: &Code) -> Span
-    requires { ⌜ Ascending series-rank (now rows) ⌝ }
-    ensures { λ r. ⌜ Spanned (now (code .entry)) (now (rows .entry)) (r .from) (r .to) ⌝ }
-{
-    let from = first_of(rows, code);
-    let to = end_of(rows, code);
-    Span { from, to }
-}
-
-/// The series of the class.
-pub fn part<'a>(rows: &'a [Series], code: &Code) -> &'a [Series]
-    requires { ⌜ Ascending series-rank (now rows) ⌝ }
-    ensures { λ r. ⌜ now r ≡ of-class (now (code .entry)) (now (rows .entry)) ⌝ }
-{
-    let span = span_of(rows, code);
-    let from = span.from;
-    let to = span.to;
-    &rows[from..to]
 }

@@ -1,5 +1,4 @@
-//! The rows of the sheet.
-ghost use mathlib.Core.Path.{_≡_};
+//! The rows of the sheet, each found by its key.
 ghost use Rattle.terms.specs.Codes.{lettered};
 ghost use Rattle.terms.specs.Keys.{figured};
 use register::Keyed;
@@ -8,6 +7,7 @@ use terms::codes::Code;
 use terms::keys::SeriesKey;
 use terms::words::Currency;
 
+/// A class: the spread rate in whole units for one delta, none where none is published, and the minimum rate in cents for one short contract.
 #[derive(Clone, Copy)]
 pub struct ClassRow {
     pub code: Code,
@@ -16,6 +16,7 @@ pub struct ClassRow {
     pub minimum_rate: u32,
 }
 
+/// A series: the price in cents, the shares of one contract, the composite delta in hundredths, and the risk array of sixteen amounts.
 #[derive(Clone, Copy)]
 pub struct Series {
     pub key: SeriesKey,

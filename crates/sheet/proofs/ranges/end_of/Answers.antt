@@ -1,4 +1,4 @@
-use mathlib.Core.Path.{_≡_, sym, ap, refl, _∙_}
+use mathlib.Core.Path.{_≡_, sym, ap, refl}
 use mathlib.Core.Bool.{not, true}
 use native.Mathlib.Omega.{arith}
 use Rattle.std.specs.declared.cmp.Ordering.{Ordering}
@@ -15,7 +15,7 @@ not-greater Equal n = refl
 not-greater Greater n = absurd (n refl)
 
 pub returns-in-Greater : need.returns-in-Greater
-returns-in-Greater c = omega (arith, leading-drop-no (through (c .args .code .now)) (c .args .rows .now) (c .loop-i .i) no-series (c .loop-i-test .taken) (ap (λ o. not (isGt o)) (sym (c .in-Greater .ensures tt .value))))
+returns-in-Greater c = record { value = omega (arith, leading-drop-no (through (c .args .code .now)) (c .args .rows .now) (c .loop-i .i) no-series (c .loop-i-test .taken) (ap (λ o. not (isGt o)) (sym (c .in-Greater .ensures tt .value)))) }
 
 pub loop-i-again : need.loop-i-again
 loop-i-again c =
@@ -23,4 +23,4 @@ loop-i-again c =
     omega (arith, leading-drop-yes (through (c .args .code .now)) (c .args .rows .now) (c .loop-i .i) no-series (c .loop-i-test .taken) pass)
 
 pub returns : need.returns
-returns c = omega (arith, leading-drop-all (through (c .args .code .now)) (c .args .rows .now) (c .loop-i .i) (c .loop-i-test .left))
+returns c = record { value = omega (arith, leading-drop-all (through (c .args .code .now)) (c .args .rows .now) (c .loop-i .i) (c .loop-i-test .left)) }

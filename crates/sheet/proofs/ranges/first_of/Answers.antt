@@ -1,4 +1,4 @@
-use mathlib.Core.Path.{_≡_, sym, ap, _∙_}
+use mathlib.Core.Path.{sym, ap}
 use native.Mathlib.Omega.{arith}
 use Rattle.std.specs.Orderings.{isLt}
 use Rattle.std.proofs.shelf.Sums.{leading-drop-yes, leading-drop-no, leading-drop-all}
@@ -10,10 +10,10 @@ use Rattle.sheet.proofs.ranges.first_of.Needs as need
 pub returns-in-rest : need.returns-in-rest
 returns-in-rest c =
     let no-less = rw (c .compare .ensures .value) at (not-less _ (c .in-rest .not-Less)) in
-    omega (arith, leading-drop-no (before (c .args .code .now)) (c .args .rows .now) (c .loop-i .i) no-series (c .loop-i-test .taken) no-less)
+    record { value = omega (arith, leading-drop-no (before (c .args .code .now)) (c .args .rows .now) (c .loop-i .i) no-series (c .loop-i-test .taken) no-less) }
 
 pub loop-i-again : need.loop-i-again
 loop-i-again c = omega (arith, leading-drop-yes (before (c .args .code .now)) (c .args .rows .now) (c .loop-i .i) no-series (c .loop-i-test .taken) (ap isLt (sym (c .in-Less .ensures tt .value))))
 
 pub returns : need.returns
-returns c = omega (arith, leading-drop-all (before (c .args .code .now)) (c .args .rows .now) (c .loop-i .i) (c .loop-i-test .left))
+returns c = record { value = omega (arith, leading-drop-all (before (c .args .code .now)) (c .args .rows .now) (c .loop-i .i) (c .loop-i-test .left)) }

@@ -1,0 +1,6 @@
+pub mod Outcomes
+pub mod Pieces
+pub mod Figures
+pub mod Sums
+pub mod Offset
+pub mod Rule

@@ -1,0 +1,35 @@
+-- The new account has the next opening number, and its counts are 0.
+use mathlib.Core.Path.{_≡_, refl}
+use Prim.Native.Nat.{_+_, _*_, _≤_}
+use lib.ListN.{length}
+use native.Mathlib.Omega.{arith}
+use Rattle.book.proofs.Cleared.{bounded-open, room-open}
+use Rattle.book.proofs.Slots.{one-more, numbered-more}
+use Rattle.book.proofs.books.Book.open.Needs as need
+
+pub ghost-self : need.ghost-self
+ghost-self c =
+    let s = c .args .self .now in
+    let e = c .in-Ok .ensures tt .entry in
+    let more = one-more e (s .«accounts_within») in
+    let a = c .len-slot .result in
+    let b = c .insert .last .self .len in
+    let old = s .counts .slots .now in
+    let new = c .clear-slot .last .self .slots .now in
+    let next : b ≡ a + 1 = omega (arith, more, c .len-slot .ensures .value) in
+    let fits : a * 256 + 256 ≤ length old = omega (arith, c .len .ensures) in (
+      e .most (s .«few_accounts»),
+      (
+        e .within (s .«accounts_within»),
+        (
+          e .sorted (s .«accounts_sorted»),
+          (
+            numbered-more e more (c .len-slot .ensures .value) (s .«accounts_numbered»),
+            (
+              room-open a b old new (c .clear-slot .ensures .after) next fits,
+              (bounded-open a b old new (c .clear-slot .ensures .after) next fits (λ k l. s .bounded k (omega (arith, c .len-slot .ensures .value))), (s .«few_series», tt)),
+            ),
+          ),
+        ),
+      ),
+    )

@@ -1,0 +1,8 @@
+pub mod Sizes
+pub mod Dots
+pub mod Rates
+pub mod Losses
+pub mod Shorts
+pub mod Months
+pub mod Parts
+pub mod Laws

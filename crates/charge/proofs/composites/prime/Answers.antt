@@ -1,0 +1,5 @@
+use Rattle.charge.proofs.Laws.{prime-lawful}
+use Rattle.charge.proofs.composites.prime.Needs as need
+
+pub returns : need.returns
+returns c = record { law = prime-lawful }

@@ -1,0 +1,5 @@
+use Rattle.charge.proofs.Laws.{minimum-lawful}
+use Rattle.charge.proofs.minimum.MinimumCharge.the-impl.Needs as need
+
+pub lawful-law : need.lawful-law
+lawful-law s = minimum-lawful

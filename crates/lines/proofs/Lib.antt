@@ -1,0 +1,12 @@
+pub mod Decimal
+pub mod Fields
+pub mod Justified
+pub mod Signs
+pub mod Blanks
+pub mod Keys
+pub mod Letters
+pub mod Trims
+pub mod Puts
+pub mod Sorts
+pub mod Rows
+pub mod Lays
