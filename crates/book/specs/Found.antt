@@ -1,7 +1,8 @@
 -- What a use names, found in a book.
 use mathlib.Core.List.{List}
+use mathlib.Core.Path.{_≡_}
 use mathlib.Core.Bool.{Bool, cond, not, _&&_}
-use Prim.Native.Nat.{ℕ}
+use Prim.Native.Nat.{ℕ, _<_, _≤_}
 use lib.IntN.{ℤ}
 use borrow.Author.Differences.{up}
 use Rattle.std.specs.declared.option.Option.{Option}
@@ -21,6 +22,7 @@ use Rattle.terms.specs.Keys.{figured}
 use Rattle.terms.specs.Names.{named}
 use Rattle.register.specs.Rows.{sought}
 use Rattle.sheet.specs.Rows.{series-rank}
+use Rattle.book.specs.declared.limits.Dealing.{Dealing}
 use Rattle.book.specs.declared.spots.Spot.{Spot}
 use Rattle.book.specs.declared.spots.Pair.{Pair}
 use Rattle.book.specs.Limits.{name-of, asked, fits, same-account}
@@ -56,12 +58,9 @@ there s t k = isSome (slot s t) && isSome (listed s k)
 abbrev pub absent : State → List ℕ → AskedKey → Fault
 absent s t k = not-there (missing (slot s t) (name-of t)) (missing (listed s k) (k .class))
 
--- of two accounts, the first that is absent is named
-abbrev pub both-there : State → List ℕ → List ℕ → AskedKey → Bool
-both-there s a b k = isSome (slot s a) && there s b k
-
-abbrev pub either-absent : State → List ℕ → List ℕ → AskedKey → Fault
-either-absent s a b k = not-there (cond (isSome (slot s a)) (missing (slot s b) (name-of b)) (Some (name-of a))) (missing (listed s k) (k .class))
+-- of two accounts the first that is absent is named
+abbrev pub source-absent : State → List ℕ → AskedKey → Fault
+source-absent s t k = not-there (Some (name-of t)) (missing (listed s k) (k .class))
 
 -- where a dealing falls
 abbrev pub spot-at : State → List ℕ → AskedKey → ℤ → Spot
@@ -71,12 +70,31 @@ spot-at s t k n = record { name = name-of t; slot = valueOr (slot s t) 0; series
 abbrev pub passing : {A : Type 0} → Bool → Fault → Result A Fault → Result A Fault
 passing b e r = cond b r (Err e)
 
+-- of a dealing within its limits, with what was found of its account and its series
+abbrev pub settled : Dealing → Code → Option ℕ → Option ℕ → Result Spot Fault
+settled d c o p = passing (isSome o && isSome p) (not-there (missing o (d .name)) (missing p c)) (Ok (record { name = d .name; slot = valueOr o 0; series = valueOr p 0; contracts = d .contracts }))
+
 -- the spot that is named, or the fault of the rows 3 and 5
 abbrev pub spot-of : State → List ℕ → AskedKey → ℤ → Result Spot Fault
 spot-of s t k n = passing (fits t k n) outside (passing (there s t k) (absent s t k) (Ok (spot-at s t k n)))
 
+-- the same of a move
 abbrev pub pair-of : State → List ℕ → List ℕ → AskedKey → ℤ → Result Pair Fault
 pair-of s a b k n =
     passing (not (same-account a b)) (twice a)
-    (passing (fits a k n && isSome (named b)) outside
-    (passing (both-there s a b k) (either-absent s a b k) (Ok (record { from = spot-at s a k n; to = spot-at s b k n }))))
+    (passing (fits a k n) outside
+    (passing (isSome (named b)) outside
+    (passing (isSome (slot s a)) (source-absent s a k)
+    (passing (there s b k) (absent s b k) (Ok (record { from = spot-at s a k n; to = spot-at s b k n }))))))
+
+-- a spot has the account and the series that were found
+pub record Settled (d : Dealing) (o q : Option ℕ) (p : Spot) : Type 0 where
+  pub account : o ≡ Some (p .slot)
+  pub place : q ≡ Some (p .series)
+  pub amount : p .contracts ≡ d .contracts
+
+-- a spot on one of n accounts, on a series of a sheet
+pub record Within (n : ℕ) (p : Spot) : Type 0 where
+  pub account : p .slot < n
+  pub place : p .series < 128
+  pub amount : p .contracts ≤ 100000

@@ -2,7 +2,7 @@
 use mathlib.Core.Path.{_≡_}
 use mathlib.Core.List.{List}
 use mathlib.Core.Bool.{Bool, not, _&&_}
-use Prim.Native.Nat.{ℕ, _+_, _-_, _*_}
+use Prim.Native.Nat.{ℕ, _+_, _-_, _*_, min}
 use lib.Dec.{leb, ltb}
 use lib.IntN.{ℤ}
 use lib.ListN.{length}
@@ -23,11 +23,11 @@ use Rattle.terms.specs.declared.keys.AskedKey.{AskedKey}
 use Rattle.terms.specs.declared.faults.Fault.{Fault}
 use Rattle.terms.specs.Faults.{refused, with-account, with-class, unless}
 use Rattle.terms.specs.Names.{named, spelled}
-use Rattle.register.specs.Rows.{place, inserted}
+use Rattle.register.specs.Rows.{sought, place, inserted}
 use Rattle.book.specs.Limits.{name-of, fits, same-account}
 use Rattle.book.specs.Rows.{account-rank}
 use Rattle.book.specs.State.{State, held, at-count, cleared}
-use Rattle.book.specs.Found.{slot, listed, outside, twice, there, absent, both-there, either-absent}
+use Rattle.book.specs.Found.{slot, listed, outside, twice, there, absent, source-absent}
 
 -- An account is opened by a name, a basis and a side. Contracts are posted to one leg, closed out of both, or moved from one account to another.
 pub data Use : Type 0 where
@@ -48,38 +48,32 @@ with-count s t k l n = at-count s (valueOr (slot s t) 0) (valueOr (listed s k) 0
 abbrev pub roomy : State → Bool
 roomy s = ltb (length (s .accounts)) 32 && (ltb (length (s .accounts)) (s .room) && leb (length (s .accounts) * 256 + 256) (length (s .counts)))
 
--- 7, 8: account and class are named
+-- 7 (fewer contracts are there than are taken), 8 (a count would pass 100,000): account and class are named
 abbrev pub at-both : Refusal → Name → Code → Fault
 at-both e n c = with-class c (with-account n (refused e Book))
-
--- 7: so many contracts are there
-abbrev pub holds : State → List ℕ → AskedKey → Leg → ℕ → Bool
-holds s t k l n = leb n (count s t k l)
-
--- 8: a count is at most 100,000
-abbrev pub has-space : State → List ℕ → AskedKey → Leg → ℕ → Bool
-has-space s t k l n = leb (count s t k l + n) 100000
 
 -- the fault that a use meets: the earliest row decides
 abbrev pub fault-of : State → Use → Option Fault
 fault-of s (Opening t b d) =
     unless (isSome (named t)) outside
-    (unless (not (isSome (slot s t))) (with-account (name-of t) (refused Twice Book))
+    (unless (not (isSome (sought account-rank (spelled (name-of t)) (s .accounts)))) (with-account (name-of t) (refused Twice Book))
     (unless (roomy s) (refused Full Book) None))
 fault-of s (Posting t k l n) =
     unless (fits t k n) outside
     (unless (there s t k) (absent s t k)
-    (unless (has-space s t k l (up n)) (at-both Ceiling (name-of t) (k .class)) None))
+    (unless (leb (count s t k l + up n) 100000) (at-both Ceiling (name-of t) (k .class)) None))
 fault-of s (Closing t k n) =
     unless (fits t k n) outside
     (unless (there s t k) (absent s t k)
-    (unless (holds s t k Long (up n) && holds s t k Short (up n)) (at-both NotHeld (name-of t) (k .class)) None))
+    (unless (leb (up n) (min (count s t k Long) (count s t k Short))) (at-both NotHeld (name-of t) (k .class)) None))
 fault-of s (Moving a b k l n) =
     unless (not (same-account a b)) (twice a)
-    (unless (fits a k n && isSome (named b)) outside
-    (unless (both-there s a b k) (either-absent s a b k)
-    (unless (holds s a k l (up n)) (at-both NotHeld (name-of a) (k .class))
-    (unless (has-space s b k l (up n)) (at-both Ceiling (name-of b) (k .class)) None))))
+    (unless (fits a k n) outside
+    (unless (isSome (named b)) outside
+    (unless (isSome (slot s a)) (source-absent s a k)
+    (unless (there s b k) (absent s b k)
+    (unless (leb (up n) (count s a k l)) (at-both NotHeld (name-of a) (k .class))
+    (unless (leb (count s b k l + up n) 100000) (at-both Ceiling (name-of b) (k .class)) None))))))
 
 -- ---- what an accepted use leaves
 -- a new account stands in the order of names, with the next opening number and all counts 0

@@ -49,11 +49,13 @@ impl<'s, 'a> Book<'s, 'a> {
     }
 
     /// Opens an account with all counts 0.
-    pub fn open(&mut self, name: &[u8], basis: Basis, side: Side) -> Result<(), Fault> {
+    pub fn open(&mut self, name: &[u8], basis: Basis, side: Side) -> Result<(), Fault>
+        ensures { λ r. ⌜ Step (view (now (self .entry))) (Opening (now (name .entry)) basis side) (refusal r) (view (now (self .exit))) ⌝ }
+    {
         let Some(name) = Name::of(name) else {
             return Err(Fault::new(Refusal::Limit, Layer::Book));
         };
-        if self.slot_of(&name).is_some() {
+        if self.accounts.find(&name).is_some() {
             return Err(Fault::new(Refusal::Twice, Layer::Book).with_account(name));
         }
         let slot = self.accounts.len();
@@ -84,33 +86,36 @@ impl<'s, 'a> Book<'s, 'a> {
         key: AskedKey,
         leg: Leg,
         contracts: i64,
-    ) -> Result<(), Fault> {
+    ) -> Result<(), Fault>
+        ensures { λ r. ⌜ Step (view (now (self .entry))) (Posting (now (name .entry)) key leg contracts) (refusal r) (view (now (self .exit))) ⌝ }
+    {
         let spot = self.spot(name, &key, contracts)?;
         let place = place_of(spot.slot, spot.series, leg);
         let count = self.count_at(place);
         if count + spot.contracts > CEILING {
             return Err(at_both(Refusal::Ceiling, spot.name, key.class));
         }
-        self.set_count(place, count + spot.contracts);
+        self.add_at(place, spot.contracts);
         Ok(())
     }
 
-    /// Takes contracts from both counts of a series.
-    pub fn close_out(&mut self, name: &[u8], key: AskedKey, contracts: i64) -> Result<(), Fault> {
+    /// Takes as many contracts from both counts of a series.
+    pub fn close_out(&mut self, name: &[u8], key: AskedKey, contracts: i64) -> Result<(), Fault>
+        ensures { λ r. ⌜ Step (view (now (self .entry))) (Closing (now (name .entry)) key contracts) (refusal r) (view (now (self .exit))) ⌝ }
+    {
         let spot = self.spot(name, &key, contracts)?;
-        let long_place = place_of(spot.slot, spot.series, Leg::Long);
-        let short_place = place_of(spot.slot, spot.series, Leg::Short);
-        let longs = self.count_at(long_place);
-        let shorts = self.count_at(short_place);
-        if longs < spot.contracts || shorts < spot.contracts {
+        let long = place_of(spot.slot, spot.series, Leg::Long);
+        let short = place_of(spot.slot, spot.series, Leg::Short);
+        let least = self.count_at(long).min(self.count_at(short));
+        if least < spot.contracts {
             return Err(at_both(Refusal::NotHeld, spot.name, key.class));
         }
-        self.set_count(long_place, longs - spot.contracts);
-        self.set_count(short_place, shorts - spot.contracts);
+        self.take_at(long, spot.contracts);
+        self.take_at(short, spot.contracts);
         Ok(())
     }
 
-    /// Takes longs or shorts from one account to another.
+    /// Moves longs or shorts from one account to another.
     pub fn move_contracts(
         &mut self,
         from: &[u8],
@@ -118,20 +123,23 @@ impl<'s, 'a> Book<'s, 'a> {
         key: AskedKey,
         leg: Leg,
         contracts: i64,
-    ) -> Result<(), Fault> {
+    ) -> Result<(), Fault>
+        ensures { λ r. ⌜ Step (view (now (self .entry))) (Moving (now (from .entry)) (now (to .entry)) key leg contracts) (refusal r) (view (now (self .exit))) ⌝ }
+    {
         let pair = self.pair(from, to, &key, contracts)?;
-        let giver = place_of(pair.from.slot, pair.from.series, leg);
-        let taker = place_of(pair.to.slot, pair.to.series, leg);
-        let given = self.count_at(giver);
-        let taken = self.count_at(taker);
-        if given < pair.from.contracts {
+        let source = place_of(pair.from.slot, pair.from.series, leg);
+        let target = place_of(pair.to.slot, pair.to.series, leg);
+        let contracts = pair.to.contracts;
+        let had = self.count_at(source);
+        if had < contracts {
             return Err(at_both(Refusal::NotHeld, pair.from.name, key.class));
         }
-        if taken + pair.from.contracts > CEILING {
+        let has = self.count_at(target);
+        if has + contracts > CEILING {
             return Err(at_both(Refusal::Ceiling, pair.to.name, key.class));
         }
-        self.set_count(giver, given - pair.from.contracts);
-        self.set_count(taker, taken + pair.from.contracts);
+        self.take_at(source, contracts);
+        self.add_at(target, contracts);
         Ok(())
     }
 }

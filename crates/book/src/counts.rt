@@ -23,7 +23,6 @@ pub(crate) fn place_of(slot: usize, series: usize, leg: Leg) -> usize
     ensures value { λ r. ⌜ r ≡ cell slot series leg ⌝ }
     ensures low { λ r. ⌜ slot * 256 ≤ r ⌝ }
     ensures high { λ r. ⌜ r < slot * 256 + 256 ⌝ }
-    ensures leg { λ r. ⌜ r ≤ slot * 256 + 128 + series ⌝ }
 {
     slot * STRIDE + leg.number() * LEG_STRIDE + series
 }

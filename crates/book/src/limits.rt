@@ -1,9 +1,11 @@
 //! What a dealing names, within its limits.
 ghost use mathlib.Core.Path.{_≡_};
+ghost use mathlib.Core.Bool.{cond};
 ghost use Prim.Native.Nat.{_≤_};
-ghost use Rattle.std.specs.declared.option.Option.the-variants.{Some};
+ghost use Rattle.std.specs.declared.option.Option.the-variants.{None, Some};
 ghost use Rattle.book.specs.declared.limits.Dealing.{Dealing};
-ghost use Rattle.book.specs.Limits.{dealing-of};
+ghost use Rattle.book.specs.Limits.{dealing-of, name-of, same-account};
+use std::cmp::Ordering;
 use terms::keys::AskedKey;
 use terms::keys::SeriesKey;
 use terms::names::Name;
@@ -33,4 +35,16 @@ pub(crate) fn within_limits(name: &[u8], key: &AskedKey, contracts: i64) -> Opti
         key,
         contracts: contracts as u32,
     })
+}
+
+/// The account that two texts both name, if they do.
+pub(crate) fn named_twice(first: &[u8], second: &[u8]) -> Option<Name>
+    ensures value { λ r. ⌜ r ≡ cond (same-account (now (first .entry)) (now (second .entry))) (Some (name-of (now (first .entry)))) None ⌝ }
+{
+    let a = Name::of(first)?;
+    let b = Name::of(second)?;
+    match a.compare(&b) {
+        Ordering::Equal => Some(a),
+        _ => None,
+    }
 }

@@ -1,8 +1,12 @@
 //! What is read of a book.
 ghost use mathlib.Core.Path.{_≡_};
-ghost use Prim.Native.Nat.{ℕ, _≤_, _<_};
+ghost use Prim.Native.Nat.{ℕ, _<_, _≤_};
 ghost use lib.ListN.{length, getD};
 ghost use Rattle.std.specs.declared.option.Option.the-variants.{Some};
+ghost use Rattle.terms.specs.declared.words.Leg.the-variants.{Long, Short};
+ghost use Rattle.book.specs.declared.rows.AccountRow.{AccountRow};
+ghost use Rattle.book.specs.Reads.{numbered, counts-of};
+ghost use Rattle.book.specs.View.{view};
 use crate::books::Book;
 use crate::counts::place_of;
 use crate::rows::AccountKeyed;
@@ -13,40 +17,61 @@ use terms::words::Leg;
 impl<'s, 'a> Book<'s, 'a> {
     /// The sheet that the book stands on.
     pub fn sheet(&self) -> Sheet<'s>
-        ensures value { λ r. ⌜ now (r .series) ≡ now (now (self .entry) .sheet .series) ⌝ }
+        ensures rates { λ r. ⌜ r .rates ≡ view (now (self .entry)) .rates ⌝ }
+        ensures classes { λ r. ⌜ now (r .classes) ≡ view (now (self .entry)) .classes ⌝ }
+        ensures series { λ r. ⌜ now (r .series) ≡ view (now (self .entry)) .series ⌝ }
     {
         self.sheet
     }
 
-    /// How many accounts are open.
     pub fn account_count(&self) -> usize
-        ensures value { λ r. ⌜ r ≡ now (self .entry) .accounts .len ⌝ }
+        ensures value { λ r. ⌜ r ≡ length (view (now (self .entry)) .accounts) ⌝ }
         ensures bound { λ r. ⌜ r ≤ 32 ⌝ }
     {
         self.accounts.len()
     }
 
-    /// The account with an opening number.
-    pub fn account(&self, number: usize) -> Option<AccountRow>
-        ensures bound { λ r. ⌜ ((a : AccountRow) → r ≡ Some a → a .slot < now (self .entry) .accounts .len) ⌝ }
+    /// The account that was opened as the k-th, counted from 0.
+    pub fn account(&self, k: usize) -> Option<AccountRow>
+        ensures value { λ r. ⌜ r ≡ numbered k (view (now (self .entry)) .accounts) ⌝ }
+        ensures bound { λ r. ⌜ ((a : AccountRow) → r ≡ Some a → a .slot < length (view (now (self .entry)) .accounts)) ⌝ }
     {
         for i in 0..self.accounts.len() {
-            if let Some(row) = self.accounts.get(i) {
-                if row.slot == number && number < self.accounts.len() {
-                    return Some(row);
-                }
+            let row = self.accounts.get(i)?;
+            if row.slot == k {
+                return Some(row);
             }
         }
         None
     }
 
-    /// The counts of one leg of an account that is open, one for each series of the sheet.
-    pub fn counts(&self, slot: usize, leg: Leg) -> &[u32]
-        requires { ⌜ slot < now self .accounts .len ⌝ }
-        ensures long { λ r. ⌜ length (now r) ≡ length (now (now (self .entry) .sheet .series)) ⌝ }
-        ensures bound { λ r. ⌜ ((k : ℕ) → getD (now r) k 0 ≤ 100000) ⌝ }
+    /// The long counts of an account beside the series of the sheet; none where no account has the opening number.
+    pub fn longs(&self, slot: usize) -> &[u32]
+        ensures value { λ r. ⌜ now r ≡ counts-of (view (now (self .entry))) slot Long ⌝ }
+        ensures all { λ r. ⌜ (slot < length (view (now (self .entry)) .accounts) → length (now r) ≡ length (view (now (self .entry)) .series)) ⌝ }
+        ensures bound { λ r. ⌜ ((j : ℕ) → getD (now r) j 0 ≤ 100000) ⌝ }
     {
-        let from = place_of(slot, 0, leg);
-        self.counts.part(from, self.sheet.series_count())
+        self.leg_counts(slot, Leg::Long)
+    }
+
+    /// The short counts likewise.
+    pub fn shorts(&self, slot: usize) -> &[u32]
+        ensures value { λ r. ⌜ now r ≡ counts-of (view (now (self .entry))) slot Short ⌝ }
+        ensures all { λ r. ⌜ (slot < length (view (now (self .entry)) .accounts) → length (now r) ≡ length (view (now (self .entry)) .series)) ⌝ }
+        ensures bound { λ r. ⌜ ((j : ℕ) → getD (now r) j 0 ≤ 100000) ⌝ }
+    {
+        self.leg_counts(slot, Leg::Short)
+    }
+
+    fn leg_counts(&self, slot: usize, leg: Leg) -> &[u32]
+        ensures value { λ r. ⌜ now r ≡ counts-of (view (now (self .entry))) slot leg ⌝ }
+        ensures all { λ r. ⌜ (slot < length (view (now (self .entry)) .accounts) → length (now r) ≡ length (view (now (self .entry)) .series)) ⌝ }
+        ensures bound { λ r. ⌜ ((j : ℕ) → getD (now r) j 0 ≤ 100000) ⌝ }
+    {
+        if slot >= self.accounts.len() {
+            return self.counts.part(0, 0);
+        }
+        self.counts
+            .part(place_of(slot, 0, leg), self.sheet.series_count())
     }
 }

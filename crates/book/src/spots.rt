@@ -1,21 +1,21 @@
 //! Where a dealing falls: the account, the series and the number of contracts that it names.
 ghost use mathlib.Core.Path.{_≡_};
 ghost use mathlib.Core.Bool.{cond};
-ghost use Prim.Native.Nat.{ℕ, _*_, _<_, _≤_};
+ghost use Prim.Native.Nat.{ℕ, _+_, _-_, _*_, _<_, _≤_};
+ghost use Rattle.std.specs.Vec.{made};
 ghost use lib.ListN.{getD, set};
 ghost use Rattle.std.specs.declared.option.Option.the-variants.{None, Some};
-ghost use Rattle.std.specs.declared.result.Result.the-variants.{Ok};
 ghost use Rattle.std.specs.Options.{isSome};
 ghost use Rattle.terms.specs.Keys.{figured};
 ghost use Rattle.register.specs.Rows.{sought};
 ghost use Rattle.sheet.specs.Rows.{series-rank};
-ghost use Rattle.book.specs.declared.spots.Pair.{Pair};
-ghost use Rattle.book.specs.declared.spots.Spot.{Spot};
 ghost use Rattle.book.specs.Rows.{slot-in};
 ghost use Rattle.book.specs.State.{at-counts};
 ghost use Rattle.book.specs.View.{view};
-ghost use Rattle.book.specs.Found.{not-there, spot-of};
+ghost use Rattle.book.specs.Found.{not-there, settled, spot-of, pair-of, Settled, Within};
 use crate::books::Book;
+use crate::limits::Dealing;
+use crate::limits::named_twice;
 use crate::limits::within_limits;
 use crate::rows::AccountKeyed;
 use terms::codes::Code;
@@ -24,7 +24,6 @@ use terms::faults::Place;
 use terms::keys::AskedKey;
 use terms::keys::SeriesKey;
 use terms::names::Name;
-use terms::names::NameSame;
 use terms::words::Layer;
 use terms::words::Refusal;
 
@@ -71,6 +70,30 @@ fn unknown(account: Option<Name>, class: Option<Code>) -> Fault
     }
 }
 
+/// The spot of a dealing, with what was found of its account and its series.
+fn settled(
+    deal: Dealing,
+    class: Code,
+    slot: Option<usize>,
+    series: Option<usize>,
+) -> Result<Spot, Fault>
+    ensures value { λ r. ⌜ r ≡ settled deal class slot series ⌝ }
+    ensures found { λ r. ⌜ made r (λ p. Settled deal slot series p) ⌝ }
+{
+    let Some(account) = slot else {
+        return Err(unknown(Some(deal.name), missing(series, class)));
+    };
+    let Some(place) = series else {
+        return Err(unknown(None, Some(class)));
+    };
+    Ok(Spot {
+        name: deal.name,
+        slot: account,
+        series: place,
+        contracts: deal.contracts,
+    })
+}
+
 impl Book<'_, '_> {
     /// The opening number of the account with a name.
     pub(crate) fn slot_of(&self, name: &Name) -> Option<usize>
@@ -92,27 +115,21 @@ impl Book<'_, '_> {
 
     /// The spot that a dealing names, or the first fault of its limits and of what is absent.
     pub(crate) fn spot(&self, name: &[u8], key: &AskedKey, contracts: i64) -> Result<Spot, Fault>
-        ensures slots { λ r. ⌜ ((p : Spot) → r ≡ Ok p → p .slot < now (self .entry) .accounts .len) ⌝ }
-        ensures series { λ r. ⌜ ((p : Spot) → r ≡ Ok p → p .series < 128) ⌝ }
-        ensures contracts { λ r. ⌜ ((p : Spot) → r ≡ Ok p → p .contracts ≤ 100000) ⌝ }
+        ensures value { λ r. ⌜ r ≡ spot-of (view (now (self .entry))) (now (name .entry)) (now (key .entry)) contracts ⌝ }
+        ensures within { λ r. ⌜ made r (λ p. Within (now (self .entry) .accounts .len) p) ⌝ }
     {
         let Some(deal) = within_limits(name, key, contracts) else {
             return Err(Fault::new(Refusal::Limit, Layer::Book));
         };
-        let slot = self.slot_of(&deal.name);
-        let series = self.series_of(&deal.key);
-        match (slot, series) {
-            (Some(slot), Some(series)) => Ok(Spot {
-                name: deal.name,
-                slot,
-                series,
-                contracts: deal.contracts,
-            }),
-            _ => Err(unknown(missing(slot, deal.name), missing(series, key.class))),
-        }
+        settled(
+            deal,
+            key.class,
+            self.slot_of(&deal.name),
+            self.series_of(&deal.key),
+        )
     }
 
-    /// The spots that a move names, or the first fault of its limits and of what is absent.
+    /// The two spots of a move, or the first fault of its limits and of what is absent.
     pub(crate) fn pair(
         &self,
         from: &[u8],
@@ -120,29 +137,40 @@ impl Book<'_, '_> {
         key: &AskedKey,
         contracts: i64,
     ) -> Result<Pair, Fault>
-        ensures slots { λ r. ⌜ ((p : Pair) → r ≡ Ok p → (p .from .slot < now (self .entry) .accounts .len) × (p .to .slot < now (self .entry) .accounts .len)) ⌝ }
-        ensures series { λ r. ⌜ ((p : Pair) → r ≡ Ok p → (p .from .series < 128) × (p .to .series < 128)) ⌝ }
-        ensures contracts { λ r. ⌜ ((p : Pair) → r ≡ Ok p → p .from .contracts ≤ 100000) ⌝ }
+        ensures value { λ r. ⌜ r ≡ pair-of (view (now (self .entry))) (now (from .entry)) (now (to .entry)) (now (key .entry)) contracts ⌝ }
+        ensures source { λ r. ⌜ made r (λ p. Within (now (self .entry) .accounts .len) (p .from)) ⌝ }
+        ensures target { λ r. ⌜ made r (λ p. Within (now (self .entry) .accounts .len) (p .to)) ⌝ }
     {
-        let giver = Name::of(from);
-        let taker = Name::of(to);
-        if let (Some(giver), Some(taker)) = (giver, taker) {
-            if giver == taker {
-                return Err(Fault::new(Refusal::Limit, Layer::Book).with_account(giver));
-            }
+        if let Some(name) = named_twice(from, to) {
+            return Err(Fault::new(Refusal::Limit, Layer::Book).with_account(name));
         }
-        if taker.is_none() {
+        let Some(deal) = within_limits(from, key, contracts) else {
             return Err(Fault::new(Refusal::Limit, Layer::Book));
+        };
+        let Some(name) = Name::of(to) else {
+            return Err(Fault::new(Refusal::Limit, Layer::Book));
+        };
+        let series = self.series_of(&deal.key);
+        let Some(slot) = self.slot_of(&deal.name) else {
+            return Err(unknown(Some(deal.name), missing(series, key.class)));
+        };
+        let other = Dealing {
+            name,
+            key: deal.key,
+            contracts: deal.contracts,
+        };
+        match settled(other, key.class, self.slot_of(&name), series) {
+            Ok(target) => Ok(Pair {
+                from: Spot {
+                    name: deal.name,
+                    slot,
+                    series: target.series,
+                    contracts: deal.contracts,
+                },
+                to: target,
+            }),
+            Err(fault) => Err(fault),
         }
-        let from = match self.spot(from, key, contracts) {
-            Ok(spot) => spot,
-            Err(fault) => return Err(fault),
-        };
-        let to = match self.spot(to, key, contracts) {
-            Ok(spot) => spot,
-            Err(fault) => return Err(fault),
-        };
-        Ok(Pair { from, to })
     }
 
     /// A count of an account that is open.
@@ -154,13 +182,23 @@ impl Book<'_, '_> {
         self.counts.slots[place]
     }
 
-    /// Writes a count of an account that is open.
-    pub(crate) fn set_count(&mut self, place: usize, count: u32)
-        requires open { ⌜ place < now self .accounts .len * 256 ⌝ }
-        requires within { ⌜ count ≤ 100000 ⌝ }
-        ensures kept { λ _. ⌜ now (self .exit) .accounts .len ≡ now (self .entry) .accounts .len ⌝ }
-        ensures after { λ _. ⌜ view (now (self .exit)) ≡ at-counts (view (now (self .entry))) (set (view (now (self .entry)) .counts) place count) ⌝ }
+    /// Adds contracts to a count of an account that is open.
+    pub(crate) fn add_at(&mut self, place: usize, contracts: u32)
+        requires place { ⌜ place < now self .accounts .len * 256 ⌝ }
+        requires space { ⌜ getD (now (now self .counts .slots)) place 0 + contracts ≤ 100000 ⌝ }
+        ensures after { λ _. ⌜ view (now (self .exit)) ≡ at-counts (view (now (self .entry))) (set (view (now (self .entry)) .counts) place (getD (view (now (self .entry)) .counts) place 0 + contracts)) ⌝ }
+        ensures accounts { λ _. ⌜ now (self .exit) .accounts .len ≡ now (self .entry) .accounts .len ⌝ }
     {
-        self.counts.slots[place] = count;
+        self.counts.slots[place] += contracts;
+    }
+
+    /// Takes contracts from a count of an account that is open.
+    pub(crate) fn take_at(&mut self, place: usize, contracts: u32)
+        requires place { ⌜ place < now self .accounts .len * 256 ⌝ }
+        requires held { ⌜ contracts ≤ getD (now (now self .counts .slots)) place 0 ⌝ }
+        ensures after { λ _. ⌜ view (now (self .exit)) ≡ at-counts (view (now (self .entry))) (set (view (now (self .entry)) .counts) place (getD (view (now (self .entry)) .counts) place 0 - contracts)) ⌝ }
+        ensures accounts { λ _. ⌜ now (self .exit) .accounts .len ≡ now (self .entry) .accounts .len ⌝ }
+    {
+        self.counts.slots[place] -= contracts;
     }
 }

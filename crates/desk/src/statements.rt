@@ -1,5 +1,7 @@
 //! The close: what every account owes, in opening order.
 ghost use Prim.Native.Nat.{_<_};
+ghost use lib.ListN.{length};
+ghost use Rattle.book.specs.View.{view};
 use account::rule::AccountReport;
 use account::rule::margin_account;
 use book::books::Book;
@@ -8,16 +10,15 @@ use charge::charges::Charge;
 use collateral::statements::Statement;
 use collateral::statements::Statements;
 use terms::faults::Fault;
-use terms::words::Leg;
 
 /// What one account of the book owes, by a charge.
 fn draw_one<C: Charge>(charge: &C, book: &Book, row: AccountRow) -> Result<Statement, Fault>
-    requires { ⌜ row .slot < now book .accounts .len ⌝ }
+    requires { ⌜ row .slot < length (view (now book) .accounts) ⌝ }
 {
     let mut report = AccountReport::blank();
     let sheet = book.sheet();
-    let longs = book.counts(row.slot, Leg::Long);
-    let shorts = book.counts(row.slot, Leg::Short);
+    let longs = book.longs(row.slot);
+    let shorts = book.shorts(row.slot);
     margin_account(
         charge,
         &sheet,

@@ -1,5 +1,12 @@
 -- The new account has the next opening number, and its counts are 0.
-use mathlib.Core.Path.{_≡_, refl}
+use mathlib.Core.Path.{_≡_, refl, sym, ap, _∙_}
+use mathlib.Core.Bool.{false}
+use Rattle.std.specs.Options.{isSome}
+use Rattle.terms.specs.Names.{spelled}
+use Rattle.register.specs.Rows.{sought}
+use Rattle.book.specs.Rows.{account-rank}
+use Rattle.book.specs.View.{view}
+use Rattle.book.proofs.Opened.{no-room, open-full}
 use Prim.Native.Nat.{_+_, _*_, _≤_}
 use lib.ListN.{length}
 use native.Mathlib.Omega.{arith}
@@ -33,3 +40,14 @@ ghost-self c =
         ),
       ),
     )
+
+pub returns-in-Err : need.returns-in-Err
+returns-in-Err c =
+    let s = view (c .args .self .now) in
+    let e = c .in-Err .ensures tt .entry in
+    let none : isSome (sought account-rank (spelled (c .in-Some .name)) (s .accounts)) ≡ false = ap isSome (sym (c .find .ensures .answer)) ∙ sym (c .if-is-some .ensures tt) in
+    record {
+      fault = open-full s (c .args .name .now) (c .args .basis) (c .args .side) (c .new-in-Err .result) (c .in-Some .name) (c .new-in-Err .ensures .value) (c .in-Some .ensures tt .value) none
+          (no-room s (record { name = c .in-Some .name; basis = c .args .basis; side = c .args .side; slot = c .len-slot .result }) (c .in-Err .field-0) none (e .answer));
+      state = cc;
+    }
