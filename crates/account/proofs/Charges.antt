@@ -1,9 +1,8 @@
 -- The charges of the pieces are added from the front; each is at most 10^11.
 use mathlib.Core.Path.{_≡_, refl, sym, ap, _∙_}
 use mathlib.Core.Bool.{Bool, true, false, cond}
-use mathlib.Core.Logic.{_⊎_, inl, inr, ⊎-elim}
-use mathlib.Core.List.{List, [], _∷_, map}
-use Prim.Native.Nat.{ℕ, zero, suc, _+_, _-_, _≤_, _<_}
+use mathlib.Core.List.{List, [], _∷_}
+use Prim.Native.Nat.{ℕ, _+_, _≤_, _<_}
 use native.Mathlib.Omega.{arith}
 use borrow.Author.Differences.{ints}
 use lib.Dec.{leb}
@@ -11,7 +10,7 @@ use lib.IntN.{ℤ, pos, _+ℤ_, natAbs, +ℤ-idl, +ℤ-idr}
 use lib.ListN.{getD, length, drop, set, replicate}
 use Rattle.std.proofs.shelf.Lists.{at-drop-more, at-drop-all, getD-replicate, set-set, set-getD}
 use Rattle.std.proofs.shelf.Counted.{length-map-counting, getD-map-counting}
-use Rattle.std.proofs.shelf.Tests.{cases-bool, leb-true}
+use Rattle.std.proofs.shelf.Tests.{leb-true}
 use Rattle.std.specs.Vec.{made}
 use Rattle.std.specs.declared.result.Result.{Result}
 use Rattle.std.specs.declared.result.Result.the-variants.{Ok, Err}
@@ -27,14 +26,12 @@ use Rattle.terms.specs.declared.codes.Code.{Code}
 use Rattle.terms.specs.declared.names.Name.{Name}
 use Rattle.terms.specs.declared.words.Basis.{Basis}
 use Rattle.account.specs.Outcomes.{beyond, and-then, plus}
-use Rattle.account.specs.Pieces.{single, pieces, mark, marks}
+use Rattle.account.specs.Pieces.{single, pieces, mark}
 use Rattle.account.specs.Figures.{class-too-large, handed-up, amounts, class-figure}
 use Rattle.account.proofs.Marks.{marks-of-pieces}
+use Rattle.account.proofs.Outcomes.{never}
 
 -- an amount lies within its limit
-never : {X Y : Type 0} (e : Y) (x : X) → _≡_ {A = Result X Y} (Err e) (Ok x) → ⊥
-never e x h = let z : _≡_ {A = ℕ} 0 1 = cc in omega arith
-
 cond-small : (b : Bool) (n : ℕ) (f : Fault) (z : ℤ) → b ≡ leb n 100000000000 → cond b (Ok (pos n)) (Err f) ≡ Ok z → natAbs z ≤ 100000000000
 cond-small true n f z b e =
     let q : pos n ≡ z = cc in

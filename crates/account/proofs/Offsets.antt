@@ -1,23 +1,21 @@
 -- The surplus of the requirement over the value is what is left of the fund; the law follows from that balance.
 use mathlib.Core.Path.{_≡_, refl, sym, ap, _∙_}
 use mathlib.Core.List.{List, [], _∷_}
-use Prim.Native.Nat.{ℕ, zero, suc, _+_, _-_, _*_, _/_, _%_, _≤_, _<_, min}
-use native.Mathlib.Nat.{add-mul, div-mul-le-self, lt-div-mul-add, mul-le-mul-right, mul-comm}
+use Prim.Native.Nat.{ℕ, zero, suc, _+_, _-_, _*_, _/_, _≤_, _<_}
+use native.Mathlib.Nat.{add-mul, div-mul-le-self, lt-div-mul-add, mul-le-mul-right}
 use native.Mathlib.Omega.{arith}
 use borrow.Author.Differences.{up, down, ints}
-use lib.IntN.{ℤ, pos, negsuc, _+ℤ_, _*ℤ_}
-use lib.Signed.{_≤ℤ_, _<ℤ_}
-use lib.ListN.{getD, length}
-use lib.ListN.{drop, take}
+use lib.IntN.{ℤ, pos, negsuc, _*ℤ_}
+use lib.ListN.{getD, length, drop}
 use Rattle.std.proofs.shelf.Lists.{drop-more}
 use Rattle.account.specs.Sums.{value-of}
 use Rattle.account.specs.Offset.{debit, credit, fund-of, loses, owed-of, requirement-of, Law, Owable}
 
 -- what is left of the fund
-abbrev pub leftOf : ℕ → List ℤ → List ℕ → ℕ
-leftOf f [] rs = f
-leftOf f (s ∷ ss) [] = f
-leftOf f (s ∷ ss) (r ∷ rs) = leftOf (f - loses f (debit s) r * r) ss rs
+abbrev pub left-of : ℕ → List ℤ → List ℕ → ℕ
+left-of f [] rs = f
+left-of f (s ∷ ss) [] = f
+left-of f (s ∷ ss) (r ∷ rs) = left-of (f - loses f (debit s) r * r) ss rs
 
 abbrev pub debts : List ℤ → List ℕ → ℕ
 debts [] rs = 0
@@ -31,7 +29,7 @@ loses-covered f d r = let h : loses f d r * r ≤ f / r * r = mul-le-mul-right r
 pub loses-splits : (d c r : ℕ) → c ≤ d → (d - c) * r + c * r ≡ d * r
 loses-splits d c r h = sym (add-mul (d - c) c r) ∙ ap (λ n. n * r) (omega arith)
 
-pub balance : (f : ℕ) (ss : List ℤ) (rs : List ℕ) → requirement-of (owed-of f ss rs) rs + f ≡ debts ss rs + leftOf f ss rs
+pub balance : (f : ℕ) (ss : List ℤ) (rs : List ℕ) → requirement-of (owed-of f ss rs) rs + f ≡ debts ss rs + left-of f ss rs
 balance f [] rs = omega arith
 balance f (s ∷ ss) [] = omega arith
 balance f (s ∷ ss) (r ∷ rs) =
@@ -39,7 +37,7 @@ balance f (s ∷ ss) (r ∷ rs) =
     let i = balance (f - c * r) ss rs in
     omega (arith, i, loses-covered f (debit s) r, loses-splits (debit s) c r (omega arith))
 
-pub left-le : (f : ℕ) (ss : List ℤ) (rs : List ℕ) → leftOf f ss rs ≤ f
+pub left-le : (f : ℕ) (ss : List ℤ) (rs : List ℕ) → left-of f ss rs ≤ f
 left-le f [] rs = omega arith
 left-le f (s ∷ ss) [] = omega arith
 left-le f (s ∷ ss) (r ∷ rs) = omega (arith, left-le (f - loses f (debit s) r * r) ss rs)
@@ -51,7 +49,7 @@ loses-short f d r p q = let e : loses f d r ≡ f / r = omega arith in rw e (ome
 abbrev pub Rated : List ℤ → List ℕ → Type 0
 Rated ss rs = (k : ℕ) → 0 < debit (getD ss k (pos 0)) → 0 < getD rs k 0
 
-pub short : (f : ℕ) (ss : List ℤ) (rs : List ℕ) → Rated ss rs → (k : ℕ) → 0 < getD (owed-of f ss rs) k 0 → leftOf f ss rs < getD rs k 0
+pub short : (f : ℕ) (ss : List ℤ) (rs : List ℕ) → Rated ss rs → (k : ℕ) → 0 < getD (owed-of f ss rs) k 0 → left-of f ss rs < getD rs k 0
 short f [] rs h k q = absurd (omega arith)
 short f (s ∷ ss) [] h k q = absurd (omega arith)
 short f (s ∷ ss) (r ∷ rs) h zero q =

@@ -11,6 +11,14 @@ use Rattle.std.proofs.shelf.Lists.{take-more-set, append-assoc, append-nil, tak
 use Rattle.account.specs.Outcomes.{and-then, onto, each}
 use Rattle.account.specs.Figures.{Bounded}
 
+pub never : {X Y : Type 0} (e : Y) (x : X) → _≡_ {A = Result X Y} (Err e) (Ok x) → ⊥
+never e x h = let z : _≡_ {A = ℕ} 0 1 = cc in omega arith
+
+-- an answer after another comes from an answer
+pub after-ok : {X Y E : Type 0} (r : Result X E) (f : X → Result Y E) (y : Y) → and-then r f ≡ Ok y → (x : X) × (r ≡ Ok x) × (f x ≡ Ok y)
+after-ok (Ok x) f y e = (x, refl, e)
+after-ok (Err d) f y e = absurd (never d y e)
+
 pub onto-none : {E : Type 0} (r : Result (List ℤ) E) → onto [] r ≡ r
 onto-none (Ok zs) = refl
 onto-none (Err e) = refl

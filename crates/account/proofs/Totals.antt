@@ -1,11 +1,11 @@
 -- Currency sums and values are formed from the front; accepted sums lie within their limit, and a debit has a rate.
-use mathlib.Core.Path.{_≡_, refl, sym, ap, _∙_}
-use mathlib.Core.Logic.{_⊎_, inl, inr, ⊎-elim}
+use mathlib.Core.Path.{_≡_, refl, ap}
+use mathlib.Core.Logic.{_⊎_, ⊎-elim}
 use mathlib.Core.Bool.{Bool, true, false, cond}
 use mathlib.Core.List.{List, [], _∷_}
 use Prim.Native.Nat.{ℕ, zero, suc, _+_, _≤_, _<_}
 use native.Mathlib.Omega.{arith}
-use lib.Dec.{T, eqb}
+use lib.Dec.{T}
 use lib.IntN.{ℤ, pos, negsuc, natAbs, _+ℤ_, _*ℤ_, +ℤ-idl}
 use lib.ListN.{getD, length, drop}
 use Rattle.std.specs.shelf.Lists.{All}
@@ -17,7 +17,7 @@ use Rattle.std.specs.declared.result.Result.the-variants.{Ok, Err}
 use Rattle.terms.specs.declared.faults.Fault.{Fault}
 use Rattle.terms.specs.declared.names.Name.{Name}
 use Rattle.terms.specs.declared.words.Currency.{Currency}
-use Rattle.terms.specs.declared.words.Currency.the-variants.{Hkd, Usd, Eur, Jpy, Rmb}
+use Rattle.terms.specs.declared.words.Currency.the-variants.{Rmb}
 use Rattle.terms.specs.Words.{currency-number}
 use Rattle.sheet.specs.declared.rows.ClassRow.{ClassRow}
 use Rattle.sheet.specs.Limits.{quoted, class-fits}
@@ -26,6 +26,7 @@ use Rattle.register.proofs.Passes.{all-from-pass}
 use Rattle.account.specs.Outcomes.{beyond, and-then, onto, each}
 use Rattle.account.specs.Sums.{currencies, currency-at, same-currency, sum-of, currency-too-large, currency-sum, sums-of, value-of}
 use Rattle.account.specs.Offset.{debit, credit, Limits}
+use Rattle.account.proofs.Outcomes.{never}
 
 -- one step of each loop
 pub sum-more : (c : Currency) (ks : List ClassRow) (zs : List ℤ) (i : ℕ) → i < length ks → i < length zs →
@@ -36,9 +37,6 @@ pub value-more : (ss : List ℤ) (rs : List ℕ) (i : ℕ) → i < length ss →
 value-more ss rs i p q = rw (drop-more ss i (pos 0), drop-more rs i 0)
 
 -- what accepted sums come from
-never : {X Y : Type 0} (e : Y) (x : X) → _≡_ {A = Result X Y} (Err e) (Ok x) → ⊥
-never e x h = let z : _≡_ {A = ℕ} 0 1 = cc in omega arith
-
 took : (r : Result ℤ Fault) (s : Result (List ℤ) Fault) (xs : List ℤ) → and-then r (λ z. onto (z ∷ []) s) ≡ Ok xs → (z : ℤ) × (zs : List ℤ) × (r ≡ Ok z) × (s ≡ Ok zs) × (xs ≡ z ∷ zs)
 took (Ok z) (Ok zs) xs e = (z, zs, refl, refl, cc)
 took (Ok z) (Err f) xs e = absurd (never f xs e)

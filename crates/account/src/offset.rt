@@ -1,6 +1,6 @@
 //! Credits set against debits: the fund, what is owed, and the requirement.
 ghost use mathlib.Core.Path.{_≡_};
-ghost use Prim.Native.Nat.{ℕ, _*_, _<_, _≤_};
+ghost use Prim.Native.Nat.{_*_, _<_, _≤_};
 ghost use denote.Ref.{now};
 ghost use Rattle.account.specs.Offset.{debit, credit, fund-of, loses, owed-of, requirement-of, Law, Limits, Owable};
 

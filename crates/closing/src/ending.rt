@@ -15,7 +15,7 @@ pub fn close(rt: &LibcRuntime) -> Result<(), Refused> {
         Ok(()) => return Ok(()),
         Err(Stop::Refused(fault)) => {
             print_fault(rt, fault);
-            tell(rt, fault);
+            let _ = tell(&mut rt.stderr(), fault);
         }
         Err(Stop::Unread) => {
             let _ = eprintln!(rt, "margin: standard input cannot be read.");

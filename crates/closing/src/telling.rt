@@ -1,8 +1,10 @@
-//! What goes to standard error: a sentence for a person about a refusal.
+//! A sentence for a person about a refusal.
+use std::io;
+use std::io::Write;
 use std::str::from_utf8;
 use terms::codes::Code;
 use terms::faults::Fault;
-use terms::names::Name;
+use terms::faults::Place;
 use terms::words::Label;
 use terms::words::Layer;
 use terms::words::Refusal;
@@ -49,47 +51,46 @@ fn charge(label: Label) -> &'static str {
 }
 
 /// A text after its word, where it can be shown.
-fn tell_text(rt: &LibcRuntime, word: &str, bytes: &[u8]) {
+fn tell_text<W: Write>(out: &mut W, word: &str, bytes: &[u8]) -> io::Result<()> {
     if let Ok(text) = from_utf8(bytes) {
         let shown = text.trim_end();
-        let _ = eprint!(rt, "; {word} {shown}");
+        write!(out, "; {word} {shown}")?;
     }
+    Ok(())
 }
 
-fn tell_code(rt: &LibcRuntime, word: &str, code: Code) {
-    tell_text(rt, word, &[code.first, code.second, code.third]);
+fn tell_code<W: Write>(out: &mut W, word: &str, code: Code) -> io::Result<()> {
+    tell_text(out, word, &[code.first, code.second, code.third])
 }
 
-fn tell_account(rt: &LibcRuntime, name: Name) {
-    tell_text(rt, "account", &name.text);
+/// What is at fault, each after its word.
+fn tell_place<W: Write>(out: &mut W, place: Place) -> io::Result<()> {
+    if let Some(name) = place.account {
+        tell_text(out, "account", &name.text)?;
+    }
+    if let Some(class) = place.class {
+        tell_code(out, "class", class)?;
+    }
+    if let Some(currency) = place.currency {
+        tell_code(out, "currency", currency.code())?;
+    }
+    if let Some(label) = place.label {
+        let which = charge(label);
+        write!(out, "; charge {which}")?;
+    }
+    Ok(())
 }
 
 /// The sentence: where, which rule, which layer, and what is at fault.
-pub fn tell(rt: &LibcRuntime, fault: Fault) {
+pub fn tell<W: Write>(out: &mut W, fault: Fault) -> io::Result<()> {
     match fault.place.line {
-        Some(line) => {
-            let _ = eprint!(rt, "margin: line {line}: ");
-        }
-        None => {
-            let _ = eprint!(rt, "margin: at the report: ");
-        }
+        Some(line) => write!(out, "line {line}: ")?,
+        None => write!(out, "at the report: ")?,
     }
     let number = fault.refusal.number();
     let rule = rule(fault.refusal);
     let layer = layer(fault.layer);
-    let _ = eprint!(rt, "refused {number} {rule} (layer {layer})");
-    if let Some(name) = fault.place.account {
-        tell_account(rt, name);
-    }
-    if let Some(class) = fault.place.class {
-        tell_code(rt, "class", class);
-    }
-    if let Some(currency) = fault.place.currency {
-        tell_code(rt, "currency", currency.code());
-    }
-    if let Some(label) = fault.place.label {
-        let which = charge(label);
-        let _ = eprint!(rt, "; charge {which}");
-    }
-    let _ = eprintln!(rt, ".");
+    write!(out, "refused {number} {rule} (layer {layer})")?;
+    tell_place(out, fault.place)?;
+    writeln!(out, ".")
 }

@@ -1,4 +1,4 @@
-use mathlib.Core.Path.{_≡_, sym, _∙_}
+use mathlib.Core.Path.{sym, _∙_}
 use lib.ListN.{length}
 use Rattle.sheet.specs.Plain.{plain}
 use Rattle.charge.specs.Replies.{amount-answer}

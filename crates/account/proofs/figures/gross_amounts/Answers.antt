@@ -1,8 +1,7 @@
-use mathlib.Core.Path.{_≡_, refl, sym, ap, _∙_}
-use Prim.Native.Nat.{_<_, _≤_, _+_}
+use mathlib.Core.Path.{sym, ap, _∙_}
+use Prim.Native.Nat.{_≤_}
 use native.Mathlib.Omega.{arith}
 use borrow.Author.Needs.{needs}
-use borrow.Author.Differences.{ints}
 use lib.IntN.{pos, natAbs}
 use lib.ListN.{getD, length, set}
 use mir.Syntax.{w64}
@@ -10,7 +9,7 @@ use mir.Val.{SFits, toZ, ofZ}
 use Rattle.std.proofs.shelf.Signed.{toZ-ofZ}
 use Rattle.std.proofs.shelf.Lists.{length-set, length-replicate}
 use Rattle.std.proofs.shelf.Results.{err-from-errBy, made-from-err}
-use Rattle.std.specs.declared.result.Result.the-variants.{Ok, Err}
+use Rattle.std.specs.declared.result.Result.the-variants.{Err}
 use Rattle.sheet.specs.Plain.{plain}
 use Rattle.account.proofs.Kit.{sum-fits, sum-back, abs-add}
 use Rattle.account.proofs.Charges.{amount-small, plus-none, amounts-stop, amounts-go, amounts-end, cleared}

@@ -1,15 +1,15 @@
 use mathlib.Core.Path.{_≡_, ap, _∙_}
-use Prim.Native.Nat.{_*_, _≤_, _<_, _+_}
+use Prim.Native.Nat.{_*_, _≤_}
 use native.Mathlib.Omega.{arith}
 use borrow.Author.Needs.{needs}
 use lib.IntN.{pos}
-use lib.ListN.{getD, length, drop}
+use lib.ListN.{getD}
 use mir.Syntax.{w64}
 use mir.Val.{SFits}
 use Rattle.std.proofs.shelf.Signed.{toZ-ofZ}
 use Rattle.std.proofs.shelf.Bits.{mul-le}
 use Rattle.std.proofs.shelf.Lists.{drop-all}
-use Rattle.account.specs.Offset.{credit, fund-of}
+use Rattle.account.specs.Offset.{credit}
 use Rattle.account.proofs.Offsets.{fund-more}
 use Rattle.account.proofs.offset.fund_of.Needs as need
 

@@ -1,4 +1,3 @@
-use mathlib.Core.Path.{_≡_, sym}
 use native.Mathlib.Omega.{arith}
 use Rattle.account.proofs.Offsets.{loses-covered}
 use Rattle.account.proofs.offset.lost.Needs as need

@@ -1,4 +1,3 @@
-use mathlib.Core.Path.{_≡_, sym}
 use Rattle.account.proofs.Offsets.{law, owed-owable}
 use Rattle.account.proofs.offset.offset.Needs as need
 

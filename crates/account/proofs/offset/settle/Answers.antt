@@ -1,16 +1,15 @@
 use mathlib.Core.Path.{_≡_, refl, sym, ap, _∙_}
-use mathlib.Core.List.{_∷_, _++_, []}
-use Prim.Native.Nat.{_*_, _-_, _≤_, _<_, _+_}
+use Prim.Native.Nat.{_*_, _-_, _≤_}
 use borrow.Author.Needs.{needs}
 use native.Mathlib.Omega.{arith}
 use lib.IntN.{pos}
-use lib.ListN.{getD, length, drop, take}
+use lib.ListN.{getD}
 use mir.Syntax.{w64}
 use mir.Val.{SFits}
 use Rattle.std.proofs.shelf.Signed.{toZ-ofZ}
 use Rattle.std.proofs.shelf.Bits.{mul-le}
-use Rattle.std.proofs.shelf.Lists.{drop-all, take-all, take-more-set, append-assoc, append-nil, length-set}
-use Rattle.account.specs.Offset.{debit, owed-of, requirement-of}
+use Rattle.std.proofs.shelf.Lists.{drop-all, take-all, append-nil, length-set}
+use Rattle.account.specs.Offset.{debit}
 use Rattle.account.proofs.Offsets.{owed-step, requirement-step}
 use Rattle.account.proofs.Written.{written}
 use Rattle.account.proofs.offset.settle.Needs as need

@@ -1,7 +1,6 @@
-use mathlib.Core.Path.{_≡_}
-use Prim.Native.Nat.{_≤_, _*_}
+use Prim.Native.Nat.{_*_}
 use native.Mathlib.Omega.{arith}
-use lib.IntN.{pos, negℤ, natAbs, _*ℤ_}
+use lib.IntN.{pos, _*ℤ_}
 use lib.Dec.{lit<}
 use Rattle.account.proofs.Kit.{abs-times-le, product-fits, minus-fits, minus-back, abs-neg}
 use Rattle.account.proofs.pieces.line_mark.Needs as need

@@ -1,14 +1,10 @@
-use mathlib.Core.Path.{_≡_, refl, sym, ap, _∙_}
-use mathlib.Core.List.{_∷_}
-use Prim.Native.Nat.{_<_}
+use mathlib.Core.Path.{sym, _∙_}
 use borrow.Author.Needs.{needs}
 use native.Mathlib.Omega.{arith}
-use lib.ListN.{getD, length, drop, take}
 use mir.Syntax.{w64}
 use mir.Val.{SFits}
 use Rattle.std.proofs.shelf.Signed.{toZ-ofZ}
 use Rattle.std.proofs.shelf.Lists.{drop-all, take-all, append-nil}
-use Rattle.account.specs.Pieces.{margined-counts}
 use Rattle.account.proofs.Marks.{margined-more}
 use Rattle.account.proofs.Written.{written}
 use Rattle.account.proofs.pieces.margin_counts.Needs as need

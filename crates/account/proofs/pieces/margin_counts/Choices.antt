@@ -1,7 +1,6 @@
-use Prim.Native.Nat.{_≤_}
 use mathlib.Core.Path.{_≡_}
 use mathlib.Core.List.{_++_}
-use lib.ListN.{drop, take, length}
+use lib.ListN.{drop, take}
 use Rattle.account.specs.Pieces.{margined-counts}
 use Rattle.account.proofs.pieces.margin_counts.Given as given
 

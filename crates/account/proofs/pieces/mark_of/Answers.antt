@@ -1,12 +1,7 @@
-use mathlib.Core.Path.{_≡_, ap, _∙_}
-use Prim.Native.Nat.{_≤_, _+_, _<_, _^_}
 use native.Mathlib.Omega.{arith}
-use borrow.Author.Needs.{needs}
 use borrow.Author.Differences.{ints}
-use lib.IntN.{pos, negℤ, natAbs, _*ℤ_, _+ℤ_}
-use lib.ListN.{getD, length, drop}
-use mir.Syntax.{w64}
-use mir.Val.{SFits, toZ, ofZ}
+use lib.IntN.{pos}
+use lib.ListN.{getD}
 use Rattle.std.proofs.shelf.Lists.{drop-all}
 use Rattle.account.proofs.Kit.{back, sum-fits, sum-back, abs-add}
 use Rattle.account.proofs.Marks.{mark-more, no-row, worth-at}

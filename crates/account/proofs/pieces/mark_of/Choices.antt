@@ -1,7 +1,7 @@
 use Prim.Native.Nat.{_≤_, _*_}
 use mathlib.Core.Path.{_≡_}
 use lib.IntN.{_+ℤ_, natAbs}
-use lib.ListN.{drop, take, length}
+use lib.ListN.{drop}
 use Rattle.account.specs.Pieces.{mark}
 use Rattle.account.proofs.pieces.mark_of.Given as given
 

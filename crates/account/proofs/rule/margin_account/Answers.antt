@@ -1,4 +1,4 @@
-use mathlib.Core.Path.{_≡_, refl, sym, ap, _∙_, subst}
+use mathlib.Core.Path.{_≡_, sym, ap, _∙_, subst}
 use Prim.Native.Nat.{_≤_}
 use native.Mathlib.Omega.{arith}
 use borrow.Author.Needs.{needs}
@@ -11,12 +11,11 @@ use Rattle.std.proofs.shelf.Signed.{toZ-ofZ}
 use Rattle.std.specs.declared.result.Result.the-variants.{Ok}
 use Rattle.account.specs.Outcomes.{and-then, left-in}
 use Rattle.account.specs.Figures.{Bounded}
-use Rattle.account.specs.Offset.{Limits, Law}
+use Rattle.account.specs.Offset.{Law}
 use Rattle.account.specs.Rule.{report-of}
 use Rattle.account.proofs.Marks.{lent}
 use Rattle.account.proofs.Outcomes.{bounded-zeros}
-use Rattle.account.proofs.Totals.{sums-limits}
-use Rattle.account.proofs.Reports.{report-is, padded}
+use Rattle.account.proofs.Reports.{report-is, padded, limits-on}
 use Rattle.account.proofs.rule.margin_account.Needs as need
 
 pub tally-in-requires : need.tally-in-requires
@@ -35,14 +34,10 @@ tally-in-requires g c κs =
     }
 
 pub value-of-value-requires : need.value-of-value-requires
-value-of-value-requires g c κs =
-    let sheet = c .args .sheet .now in
-    record { limits = subst (Limits (c .tally-in .last .sums)) (sym (c .rates-rates .ensures .value)) (sums-limits (c .args .name) (sheet .classes .now) _ _ (sheet .rates) (sym (c .in-Continue-tally-in .ensures tt .sums)) (sheet .«rates_fit») (sheet .«classes_fit»)) }
+value-of-value-requires g c κs = record { limits = limits-on (c .args .sheet .now) (c .args .name) (c .tally-in .last .figures) (c .tally-in .last .sums) (c .rates-rates .result) (c .rates-rates .ensures .value) (c .in-Continue-tally-in .ensures tt .sums) }
 
 pub offset-requirement-requires : need.offset-requirement-requires
-offset-requirement-requires g c κs =
-    let sheet = c .args .sheet .now in
-    record { limits = subst (Limits (c .tally-in .last .sums)) (sym (c .rates-rates .ensures .value)) (sums-limits (c .args .name) (sheet .classes .now) _ _ (sheet .rates) (sym (c .in-Continue-tally-in .ensures tt .sums)) (sheet .«rates_fit») (sheet .«classes_fit»)) }
+offset-requirement-requires g c κs = record { limits = limits-on (c .args .sheet .now) (c .args .name) (c .tally-in .last .figures) (c .tally-in .last .sums) (c .rates-rates .result) (c .rates-rates .ensures .value) (c .in-Continue-tally-in .ensures tt .sums) }
 
 pub returns : need.returns
 returns g c =

@@ -1,4 +1,4 @@
-use mathlib.Core.Path.{_≡_, sym, _∙_, subst}
+use mathlib.Core.Path.{sym, _∙_, subst}
 use Rattle.account.specs.Pieces.{Small}
 use Rattle.account.proofs.Marks.{counts-small}
 use Rattle.account.proofs.rule.tally_in.Needs as need

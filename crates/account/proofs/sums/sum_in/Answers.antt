@@ -1,15 +1,13 @@
-use mathlib.Core.Path.{_≡_, ap, _∙_}
-use Prim.Native.Nat.{_≤_, _+_, _<_}
+use mathlib.Core.Path.{ap, _∙_}
 use native.Mathlib.Omega.{arith}
-use borrow.Author.Needs.{needs}
 use borrow.Author.Differences.{ints}
-use lib.IntN.{pos, natAbs}
-use lib.ListN.{getD, length}
+use lib.IntN.{pos}
+use lib.ListN.{getD}
 use Rattle.std.proofs.shelf.Lists.{drop-all}
 use mathlib.Core.Bool.{cond}
 use Rattle.sheet.specs.declared.rows.ClassRow.{ClassRow}
 use Rattle.account.specs.Sums.{same-currency}
-use Rattle.account.proofs.Kit.{back, sum-fits, sum-back, abs-add}
+use Rattle.account.proofs.Kit.{back, sum-back, abs-add}
 use Rattle.account.proofs.Totals.{sum-more}
 use Rattle.account.proofs.sums.sum_in.Needs as need
 

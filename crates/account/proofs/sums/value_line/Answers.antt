@@ -1,5 +1,3 @@
-use mathlib.Core.Path.{_≡_}
-use lib.IntN.{pos}
 use lib.Dec.{lit<}
 use Rattle.account.proofs.Kit.{abs-times-le, product-fits, product-back}
 use Rattle.account.proofs.sums.value_line.Needs as need

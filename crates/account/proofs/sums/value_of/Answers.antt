@@ -1,15 +1,13 @@
-use mathlib.Core.Path.{_≡_, ap, _∙_}
-use Prim.Native.Nat.{_≤_, _+_, _<_, _^_}
 use native.Mathlib.Omega.{arith}
 use borrow.Author.Needs.{needs}
 use borrow.Author.Differences.{ints}
-use lib.IntN.{pos, natAbs}
-use lib.ListN.{getD, length}
+use lib.IntN.{pos}
+use lib.ListN.{getD}
 use mir.Syntax.{w64}
 use mir.Val.{SFits}
 use Rattle.std.proofs.shelf.Signed.{toZ-ofZ}
 use Rattle.std.proofs.shelf.Lists.{drop-all}
-use Rattle.account.proofs.Kit.{back, sum-fits, sum-back, abs-add}
+use Rattle.account.proofs.Kit.{sum-back, abs-add}
 use Rattle.account.proofs.Totals.{value-more}
 use Rattle.account.proofs.sums.value_of.Needs as need
 
