@@ -1,7 +1,7 @@
--- Counts from a place on that are set to 0. Over a variable number of them: at the numeral 256 the list is written out. Assumes nothing.
-use mathlib.Core.Path.{_≡_, refl, sym, ap, _∙_}
+-- Counts that are set: to 0 from a place on (over any number of them, since at the numeral 256 the list is written out), or one of them.
+use mathlib.Core.Path.{_≡_, ap}
 use mathlib.Core.List.{List, [], _∷_}
-use Prim.Native.Nat.{ℕ, zero, suc, _+_, _-_, _*_, _<_, _≤_}
+use Prim.Native.Nat.{ℕ, zero, suc, _+_, _*_, _<_, _≤_}
 use native.Mathlib.Omega.{arith}
 use lib.ListN.{length, getD, set, replicate, length-replicate, length-set}
 use lib.Seq.{paste}

@@ -1,9 +1,8 @@
 -- What the counts say of a post, a close out and a move, at the spots that were found.
-use mathlib.Core.Path.{_≡_, refl, sym, ap, subst, _∙_}
+use mathlib.Core.Path.{_≡_, ap, subst, _∙_}
 use mathlib.Core.Bool.{Bool, true, false}
 use mathlib.Core.List.{List, [], _∷_}
 use Prim.Native.Nat.{ℕ, zero, suc, _+_, _-_, _<_, _≤_, min}
-use native.Mathlib.Omega.{arith}
 use lib.Dec.{leb}
 use lib.IntN.{ℤ}
 use lib.ListN.{getD, set}
@@ -21,7 +20,7 @@ use Rattle.terms.specs.declared.keys.AskedKey.{AskedKey}
 use Rattle.terms.specs.declared.words.Leg.{Leg}
 use Rattle.terms.specs.declared.words.Leg.the-variants.{Long, Short}
 use Rattle.terms.specs.declared.words.Refusal.the-variants.{NotHeld, Ceiling}
-use Rattle.terms.specs.Faults.{unless, refusal}
+use Rattle.terms.specs.Faults.{unless}
 use Rattle.book.specs.declared.spots.Spot.{Spot}
 use Rattle.book.specs.declared.spots.Pair.{Pair}
 use Rattle.book.specs.Limits.{name-of}
@@ -30,8 +29,12 @@ use Rattle.book.specs.Found.{spot-at, spot-of, pair-of}
 use Rattle.book.specs.Uses.{Posting, Closing, Moving, fault-of, done, at-both, count}
 use Rattle.book.proofs.Dealt.{spot-rows, spot-is, pair-rows, pair-is}
 
-abbrev at : State → Leg → Spot → ℕ
+-- the count at a spot
+abbrev pub at : State → Leg → Spot → ℕ
 at s l p = getD (s .counts) (cell (p .slot) (p .series) l) 0
+
+pub counted : (s : State) (l : Leg) (p : Spot) (c q : ℕ) → c ≡ getD (s .counts) q 0 → q ≡ cell (p .slot) (p .series) l → c ≡ at s l p
+counted s l p c q e f = e ∙ ap (λ (i : ℕ). getD (s .counts) i 0) f
 
 -- a number that is passed comes as its bits and back
 pub spot-passed : (s : State) (t : List ℕ) (k : AskedKey) (n : ℤ) (r : Result Spot Fault) → SFits w64 n → r ≡ spot-of s t k (toZ w64 (ofZ w64 n)) → r ≡ spot-of s t k n

@@ -10,7 +10,6 @@ use Rattle.std.specs.declared.option.Option.the-variants.{None, Some}
 use Rattle.std.specs.declared.result.Result.{Result}
 use Rattle.std.specs.declared.result.Result.the-variants.{Ok, Err}
 use Rattle.std.specs.Options.{isSome, valueOr}
-use Rattle.terms.specs.declared.words.Leg.{Leg}
 use Rattle.terms.specs.declared.words.Refusal.the-variants.{Limit, Unknown}
 use Rattle.terms.specs.declared.words.Layer.the-variants.{Book}
 use Rattle.terms.specs.declared.codes.Code.{Code}

@@ -1,7 +1,7 @@
 -- A book as plain values.
 use mathlib.Core.List.{List, []}
 use Prim.Native.Nat.{ℕ, _+_, _*_}
-use lib.ListN.{length, getD, replicate, set}
+use lib.ListN.{getD, replicate, set}
 use lib.Seq.{paste}
 use Rattle.terms.specs.declared.words.Leg.{Leg}
 use Rattle.terms.specs.Words.{leg-number}

@@ -11,6 +11,8 @@ use crate::rows::AccountRow;
 use register::Register;
 use sheet::sheets::Sheet;
 
+/// At most 32 accounts, in order of their names and within the lent rows, each with an opening number below their number;
+/// their counts within the lent memory, none above 100,000.
 #[derive(Drop)]
 pub struct Book<'s, 'a> {
     pub(crate) sheet: Sheet<'s>,
@@ -22,5 +24,4 @@ pub struct Book<'s, 'a> {
     ghost accounts_numbered: { T (all-pass (numbered-below (accounts .len)) (take (accounts .len) (now (accounts .rows)))) },
     ghost room: { accounts .len * 256 ≤ length (now (counts .slots)) },
     ghost bounded: { (k : ℕ) → k < accounts .len * 256 → getD (now (counts .slots)) k 0 ≤ 100000 },
-    ghost few_series: { length (now (sheet .series)) ≤ 128 },
 }

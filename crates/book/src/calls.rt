@@ -39,7 +39,7 @@ fn at_both(refusal: Refusal, account: Name, class: Code) -> Fault
 impl<'s, 'a> Book<'s, 'a> {
     /// A book without accounts, over memory that may hold anything.
     pub fn new(sheet: Sheet<'s>, rows: &'a mut [AccountRow], counts: &'a mut [u32]) -> Book<'s, 'a>
-        ensures { λ r. ⌜ view r ≡ empty (sheet .entry .rates) (now (sheet .entry .classes)) (now (sheet .entry .series)) (length (now (rows .entry))) (now (counts .entry)) ⌝ }
+        ensures value { λ r. ⌜ view r ≡ empty (sheet .entry .rates) (now (sheet .entry .classes)) (now (sheet .entry .series)) (length (now (rows .entry))) (now (counts .entry)) ⌝ }
     {
         Book {
             sheet,
@@ -48,9 +48,9 @@ impl<'s, 'a> Book<'s, 'a> {
         }
     }
 
-    /// Opens an account with all counts 0.
+    /// Opens an account with all counts 0; refused 3 (the name has no form), 4 (it is there already), 6 (no room).
     pub fn open(&mut self, name: &[u8], basis: Basis, side: Side) -> Result<(), Fault>
-        ensures { λ r. ⌜ Step (view (now (self .entry))) (Opening (now (name .entry)) basis side) (refusal r) (view (now (self .exit))) ⌝ }
+        ensures step { λ r. ⌜ Step (view (now (self .entry))) (Opening (now (name .entry)) basis side) (refusal r) (view (now (self .exit))) ⌝ }
     {
         let Some(name) = Name::of(name) else {
             return Err(Fault::new(Refusal::Limit, Layer::Book));
@@ -62,15 +62,13 @@ impl<'s, 'a> Book<'s, 'a> {
         if self.counts.len() < slot * STRIDE + STRIDE {
             return Err(Fault::new(Refusal::Full, Layer::Book));
         }
-        match self.accounts.insert(
-            AccountRow {
-                name,
-                basis,
-                side,
-                slot,
-            },
-            MOST_ACCOUNTS,
-        ) {
+        let row = AccountRow {
+            name,
+            basis,
+            side,
+            slot,
+        };
+        match self.accounts.insert(row, MOST_ACCOUNTS) {
             Ok(_) => {
                 self.counts.clear_slot(slot);
                 Ok(())
@@ -79,7 +77,7 @@ impl<'s, 'a> Book<'s, 'a> {
         }
     }
 
-    /// Adds contracts to one count.
+    /// Adds contracts to one count; refused 3 (a limit), 5 (account or series absent), 8 (above 100,000).
     pub fn post(
         &mut self,
         name: &[u8],
@@ -87,7 +85,7 @@ impl<'s, 'a> Book<'s, 'a> {
         leg: Leg,
         contracts: i64,
     ) -> Result<(), Fault>
-        ensures { λ r. ⌜ Step (view (now (self .entry))) (Posting (now (name .entry)) key leg contracts) (refusal r) (view (now (self .exit))) ⌝ }
+        ensures step { λ r. ⌜ Step (view (now (self .entry))) (Posting (now (name .entry)) key leg contracts) (refusal r) (view (now (self .exit))) ⌝ }
     {
         let spot = self.spot(name, &key, contracts)?;
         let place = place_of(spot.slot, spot.series, leg);
@@ -99,9 +97,9 @@ impl<'s, 'a> Book<'s, 'a> {
         Ok(())
     }
 
-    /// Takes as many contracts from both counts of a series.
+    /// Takes as many contracts from both counts of a series; refused 3, 5, 7 (fewer are there).
     pub fn close_out(&mut self, name: &[u8], key: AskedKey, contracts: i64) -> Result<(), Fault>
-        ensures { λ r. ⌜ Step (view (now (self .entry))) (Closing (now (name .entry)) key contracts) (refusal r) (view (now (self .exit))) ⌝ }
+        ensures step { λ r. ⌜ Step (view (now (self .entry))) (Closing (now (name .entry)) key contracts) (refusal r) (view (now (self .exit))) ⌝ }
     {
         let spot = self.spot(name, &key, contracts)?;
         let long = place_of(spot.slot, spot.series, Leg::Long);
@@ -115,7 +113,7 @@ impl<'s, 'a> Book<'s, 'a> {
         Ok(())
     }
 
-    /// Moves longs or shorts from one account to another.
+    /// Moves longs or shorts from one account to another; refused 3 (also where both are one account), 5, 7, 8.
     pub fn move_contracts(
         &mut self,
         from: &[u8],
@@ -124,7 +122,7 @@ impl<'s, 'a> Book<'s, 'a> {
         leg: Leg,
         contracts: i64,
     ) -> Result<(), Fault>
-        ensures { λ r. ⌜ Step (view (now (self .entry))) (Moving (now (from .entry)) (now (to .entry)) key leg contracts) (refusal r) (view (now (self .exit))) ⌝ }
+        ensures step { λ r. ⌜ Step (view (now (self .entry))) (Moving (now (from .entry)) (now (to .entry)) key leg contracts) (refusal r) (view (now (self .exit))) ⌝ }
     {
         let pair = self.pair(from, to, &key, contracts)?;
         let source = place_of(pair.from.slot, pair.from.series, leg);

@@ -5,4 +5,4 @@ pub mod counts;
 pub mod limits;
 pub mod reads;
 pub mod rows;
-pub mod spots;
+mod spots;

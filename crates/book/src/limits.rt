@@ -1,4 +1,4 @@
-//! What a dealing names, within its limits.
+//! The limits of what a dealing names.
 ghost use mathlib.Core.Path.{_≡_};
 ghost use mathlib.Core.Bool.{cond};
 ghost use Prim.Native.Nat.{_≤_};
@@ -13,6 +13,7 @@ use terms::names::Name;
 /// How many contracts one use takes at most, and one count holds at most.
 pub const CEILING: u32 = 100_000;
 
+/// What a dealing names, each part within its limits.
 #[derive(Clone, Copy)]
 pub(crate) struct Dealing {
     pub name: Name,

@@ -24,6 +24,7 @@ impl<'s, 'a> Book<'s, 'a> {
         self.sheet
     }
 
+    /// How many accounts are open.
     pub fn account_count(&self) -> usize
         ensures value { λ r. ⌜ r ≡ length (view (now (self .entry)) .accounts) ⌝ }
         ensures bound { λ r. ⌜ r ≤ 32 ⌝ }
@@ -63,6 +64,7 @@ impl<'s, 'a> Book<'s, 'a> {
         self.leg_counts(slot, Leg::Short)
     }
 
+    /// The counts of one leg.
     fn leg_counts(&self, slot: usize, leg: Leg) -> &[u32]
         ensures value { λ r. ⌜ now r ≡ counts-of (view (now (self .entry))) slot leg ⌝ }
         ensures all { λ r. ⌜ (slot < length (view (now (self .entry)) .accounts) → length (now r) ≡ length (view (now (self .entry)) .series)) ⌝ }

@@ -1,5 +1,4 @@
 //! The row of an account.
-ghost use mathlib.Core.Path.{_≡_};
 ghost use Rattle.terms.specs.Names.{spelled};
 use register::Keyed;
 use std::cmp::Ordering;

@@ -27,6 +27,7 @@ use terms::names::Name;
 use terms::words::Layer;
 use terms::words::Refusal;
 
+/// A dealing with its account's opening number and its series' place on the sheet.
 #[derive(Clone, Copy)]
 pub(crate) struct Spot {
     pub name: Name,
@@ -35,7 +36,7 @@ pub(crate) struct Spot {
     pub contracts: u32,
 }
 
-/// The spots of a move.
+/// The two spots of a move.
 #[derive(Clone, Copy)]
 pub(crate) struct Pair {
     pub from: Spot,
@@ -173,16 +174,18 @@ impl Book<'_, '_> {
         }
     }
 
-    /// A count of an account that is open.
+    // The three below take a place of an account that is open, as a spot has it.
+
+    /// A count.
     pub(crate) fn count_at(&self, place: usize) -> u32
-        requires { ⌜ place < now self .accounts .len * 256 ⌝ }
+        requires place { ⌜ place < now self .accounts .len * 256 ⌝ }
         ensures value { λ r. ⌜ r ≡ getD (view (now (self .entry)) .counts) place 0 ⌝ }
         ensures bound { λ r. ⌜ r ≤ 100000 ⌝ }
     {
         self.counts.slots[place]
     }
 
-    /// Adds contracts to a count of an account that is open.
+    /// Adds contracts to a count.
     pub(crate) fn add_at(&mut self, place: usize, contracts: u32)
         requires place { ⌜ place < now self .accounts .len * 256 ⌝ }
         requires space { ⌜ getD (now (now self .counts .slots)) place 0 + contracts ≤ 100000 ⌝ }
@@ -192,7 +195,7 @@ impl Book<'_, '_> {
         self.counts.slots[place] += contracts;
     }
 
-    /// Takes contracts from a count of an account that is open.
+    /// Takes contracts from a count.
     pub(crate) fn take_at(&mut self, place: usize, contracts: u32)
         requires place { ⌜ place < now self .accounts .len * 256 ⌝ }
         requires held { ⌜ contracts ≤ getD (now (now self .counts .slots)) place 0 ⌝ }

@@ -1,7 +1,8 @@
-use mathlib.Core.Path.{_≡_, sym, ap, _∙_}
-use Prim.Native.Nat.{_+_, _<_}
+-- After i turns the first i counts from the base on are 0.
+use mathlib.Core.Path.{ap, _∙_}
+use Prim.Native.Nat.{_+_}
 use mathlib.Core.List.{[]}
-use lib.ListN.{length, set}
+use lib.ListN.{set}
 use native.Mathlib.Omega.{arith}
 use Rattle.std.proofs.shelf.Edits.{paste-none, fill-from-more}
 use Rattle.book.proofs.counts.clear.Needs as need

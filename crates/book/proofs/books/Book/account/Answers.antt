@@ -1,25 +1,20 @@
 -- The rows are looked through for the opening number.
-use mathlib.Core.Path.{_≡_, refl, sym, ap, subst, _∙_}
-use mathlib.Core.Bool.{true, false}
-use Prim.Native.Nat.{ℕ, _+_, _<_, _≤_}
+use mathlib.Core.Path.{_≡_, sym, ap, subst, _∙_}
+use mathlib.Core.Bool.{true}
+use Prim.Native.Nat.{ℕ, _<_, _≤_}
 use native.Mathlib.Omega.{arith}
 use native.Mathlib.Numerals.{add-one}
 use lib.Dec.{eqb}
 use lib.ListN.{length, take, drop}
 use lib.Seq.{length-take-le}
-use borrow.Author.Tests.{eq-eqb}
-use Rattle.std.specs.declared.option.Option.the-variants.{None, Some}
+use Rattle.std.specs.declared.option.Option.the-variants.{Some}
 use Rattle.std.proofs.shelf.Maps.{nth-past}
-use Rattle.std.proofs.shelf.Ways.{tells}
-use Rattle.std.proofs.shelf.Tests.{cond-true, cond-false}
+use Rattle.std.proofs.shelf.Tests.{cond-true, cond-false, eq-eqb, ne-eqb}
 use Rattle.book.specs.declared.rows.AccountRow.{AccountRow}
 use Rattle.book.specs.Reads.{numbered}
 use Rattle.book.proofs.Read.{row-here, row-past}
 use Rattle.book.proofs.Slots.{slot-below}
 use Rattle.book.proofs.books.Book.account.Needs as need
-
-not-eqb : (a b : ℕ) → (a ≡ b → ⊥) → eqb a b ≡ false
-not-eqb a b h = grind (arith, tells)
 
 pub returns-in-Break-row : need.returns-in-Break-row
 returns-in-Break-row c =
@@ -50,7 +45,7 @@ loop-i-again c =
     let s = c .args .self .now in
     let rows = take (s .accounts .len) (s .accounts .rows .now) in
     let row = c .in-Continue-row .row in
-    let isnt = not-eqb (row .slot) (c .args .k) (c .if-row-k .left) in
+    let isnt = ne-eqb (row .slot) (c .args .k) (c .if-row-k .left) in
     ap (λ (i : ℕ). numbered (c .args .k) (drop i rows)) (add-one (c .loop-i .i))
     ∙ sym (row-here (c .args .k) rows (c .loop-i .i) row (c .in-Continue-row .ensures tt .value) ∙ cond-false (eqb (row .slot) (c .args .k)) (Some row) _ isnt) ∙ c .loop-i .inv
 

@@ -1,6 +1,5 @@
 -- The count stays within its limit, and all others as they are.
-use native.Mathlib.Omega.{arith}
-use Prim.Native.Nat.{ℕ, _+_, _-_, _≤_}
+use Prim.Native.Nat.{_+_, _≤_}
 use lib.ListN.{getD}
 use Rattle.book.proofs.Cleared.{bounded-set, room-set}
 use Rattle.book.proofs.books.Book.add_at.Needs as need
@@ -21,7 +20,7 @@ ghost-self c =
             s .«accounts_numbered»,
             (
               room-set xs p v (s .accounts .len) (s .room),
-              (bounded-set xs p v (s .accounts .len) fits (s .bounded), (s .«few_series», tt)),
+              (bounded-set xs p v (s .accounts .len) fits (s .bounded), tt),
             ),
           ),
         ),

@@ -1,14 +1,11 @@
 -- Each way out meets the row of faults that decides there.
-use mathlib.Core.Path.{_≡_, refl, sym, ap, subst, _∙_}
-use Prim.Native.Nat.{ℕ, _+_, _<_, _≤_, min}
-use native.Mathlib.Omega.{arith}
-use lib.ListN.{getD}
+use mathlib.Core.Path.{_≡_, refl, ap, subst, _∙_}
+use Prim.Native.Nat.{ℕ, _<_, _≤_, min}
 use Rattle.std.proofs.shelf.Results.{err-from-errBy}
-use Rattle.std.specs.declared.result.Result.the-variants.{Ok, Err}
+use Rattle.std.specs.declared.result.Result.the-variants.{Ok}
 use Rattle.terms.specs.declared.words.Leg.the-variants.{Long, Short}
-use Rattle.book.specs.State.{cell}
 use Rattle.book.specs.View.{view}
-use Rattle.book.proofs.Posted.{spot-passed, close-refused, close-short, close-passed, close-done}
+use Rattle.book.proofs.Posted.{at, counted, spot-passed, close-refused, close-short, close-passed, close-done}
 use Rattle.book.proofs.books.Book.close_out.Needs as need
 
 pub returns-in-Break-spot : need.returns-in-Break-spot
@@ -19,8 +16,10 @@ returns-in-Break-spot c =
     let n = c .args .contracts in
     let p = err-from-errBy (c .from-residual .result) (c .from-residual .ensures .1) in
     record {
-      fault = rw (p .1, p .2) (close-refused s t k n _ (spot-passed s t k n _ (c .fits .contracts) (c .in-Break-spot .ensures tt .value)));
-      state = rw (p .1);
+      step = record {
+        fault = rw (p .1, p .2) (close-refused s t k n _ (spot-passed s t k n _ (c .fits .contracts) (c .in-Break-spot .ensures tt .value)));
+        state = rw (p .1);
+      };
     }
 
 pub returns-then-least-spot : need.returns-then-least-spot
@@ -31,10 +30,10 @@ returns-then-least-spot c =
     let n = c .args .contracts in
     let p = c .in-Continue-spot .spot in
     let h = spot-passed s t k n (Ok p) (c .fits .contracts) (c .in-Continue-spot .ensures tt .value) in
-    let longs : c .count-at .result ≡ getD (s .counts) (cell (p .slot) (p .series) Long) 0 = c .count-at .ensures .value ∙ ap (λ (q : ℕ). getD (s .counts) q 0) (c .place-of-long .ensures .value) in
-    let shorts : c .count-at-2 .result ≡ getD (s .counts) (cell (p .slot) (p .series) Short) 0 = c .count-at-2 .ensures .value ∙ ap (λ (q : ℕ). getD (s .counts) q 0) (c .place-of-short .ensures .value) in
-    let least : c .min-least .result ≡ min (getD (s .counts) (cell (p .slot) (p .series) Long) 0) (getD (s .counts) (cell (p .slot) (p .series) Short) 0) = c .min-least .ensures ∙ ap (λ (x : ℕ). min x (c .count-at-2 .result)) longs ∙ ap (λ (x : ℕ). min (getD (s .counts) (cell (p .slot) (p .series) Long) 0) x) shorts in
-    record { fault = close-short s t k n p h (c .at-both .result) (c .at-both .ensures .value) (subst (λ (x : ℕ). x < p .contracts) least (c .if-least-spot .taken)); state = refl }
+    let longs = counted s Long p (c .count-at .result) (c .place-of-long .result) (c .count-at .ensures .value) (c .place-of-long .ensures .value) in
+    let shorts = counted s Short p (c .count-at-2 .result) (c .place-of-short .result) (c .count-at-2 .ensures .value) (c .place-of-short .ensures .value) in
+    let least : c .min-least .result ≡ min (at s Long p) (at s Short p) = c .min-least .ensures ∙ ap (λ (x : ℕ). min x (c .count-at-2 .result)) longs ∙ ap (λ (x : ℕ). min (at s Long p) x) shorts in
+    record { step = record { fault = close-short s t k n p h (c .at-both .result) (c .at-both .ensures .value) (subst (λ (x : ℕ). x < p .contracts) least (c .if-least-spot .taken)); state = refl } }
 
 pub returns : need.returns
 returns c =
@@ -44,11 +43,13 @@ returns c =
     let n = c .args .contracts in
     let p = c .in-Continue-spot .spot in
     let h = spot-passed s t k n (Ok p) (c .fits .contracts) (c .in-Continue-spot .ensures tt .value) in
-    let longs : c .count-at .result ≡ getD (s .counts) (cell (p .slot) (p .series) Long) 0 = c .count-at .ensures .value ∙ ap (λ (q : ℕ). getD (s .counts) q 0) (c .place-of-long .ensures .value) in
-    let shorts : c .count-at-2 .result ≡ getD (s .counts) (cell (p .slot) (p .series) Short) 0 = c .count-at-2 .ensures .value ∙ ap (λ (q : ℕ). getD (s .counts) q 0) (c .place-of-short .ensures .value) in
-    let least : c .min-least .result ≡ min (getD (s .counts) (cell (p .slot) (p .series) Long) 0) (getD (s .counts) (cell (p .slot) (p .series) Short) 0) = c .min-least .ensures ∙ ap (λ (x : ℕ). min x (c .count-at-2 .result)) longs ∙ ap (λ (x : ℕ). min (getD (s .counts) (cell (p .slot) (p .series) Long) 0) x) shorts in
+    let longs = counted s Long p (c .count-at .result) (c .place-of-long .result) (c .count-at .ensures .value) (c .place-of-long .ensures .value) in
+    let shorts = counted s Short p (c .count-at-2 .result) (c .place-of-short .result) (c .count-at-2 .ensures .value) (c .place-of-short .ensures .value) in
+    let least : c .min-least .result ≡ min (at s Long p) (at s Short p) = c .min-least .ensures ∙ ap (λ (x : ℕ). min x (c .count-at-2 .result)) longs ∙ ap (λ (x : ℕ). min (at s Long p) x) shorts in
     record {
-      fault = close-passed s t k n p h (subst (λ (x : ℕ). p .contracts ≤ x) least (c .if-least-spot .left));
-      state = close-done s t k n p h (view (c .take-at .last .self)) (view (c .take-at-2 .last .self)) (c .place-of-long .result) (c .place-of-short .result)
-          (c .place-of-long .ensures .value) (c .place-of-short .ensures .value) (c .take-at .ensures .after) (c .take-at-2 .ensures .after);
+      step = record {
+        fault = close-passed s t k n p h (subst (λ (x : ℕ). p .contracts ≤ x) least (c .if-least-spot .left));
+        state = close-done s t k n p h (view (c .take-at .last .self)) (view (c .take-at-2 .last .self)) (c .place-of-long .result) (c .place-of-short .result)
+            (c .place-of-long .ensures .value) (c .place-of-short .ensures .value) (c .take-at .ensures .after) (c .take-at-2 .ensures .after);
+      };
     }

@@ -1,13 +1,13 @@
 -- Each way out meets the row of faults that decides there.
-use mathlib.Core.Path.{_≡_, refl, sym, ap, subst, _∙_}
-use Prim.Native.Nat.{ℕ, _+_, _-_, _<_, _≤_, min}
+use mathlib.Core.Path.{_≡_, refl, sym, ap, subst}
+use Prim.Native.Nat.{_+_, _-_, _≤_}
 use native.Mathlib.Omega.{arith}
 use lib.ListN.{getD, set}
 use Rattle.std.proofs.shelf.Results.{err-from-errBy}
-use Rattle.std.specs.declared.result.Result.the-variants.{Ok, Err}
-use Rattle.book.specs.State.{State, cell}
+use Rattle.std.specs.declared.result.Result.the-variants.{Ok}
+use Rattle.book.specs.State.{State}
 use Rattle.book.specs.View.{view}
-use Rattle.book.proofs.Posted.{pair-passed, space-left, move-refused, move-short, move-over, move-passed, move-done}
+use Rattle.book.proofs.Posted.{counted, pair-passed, space-left, move-refused, move-short, move-over, move-passed, move-done}
 use Rattle.book.proofs.books.Book.move_contracts.Needs as need
 
 pub returns-in-Break-pair : need.returns-in-Break-pair
@@ -19,8 +19,10 @@ returns-in-Break-pair c =
     let n = c .args .contracts in
     let p = err-from-errBy (c .from-residual .result) (c .from-residual .ensures .1) in
     record {
-      fault = rw (p .1, p .2) (move-refused s a b k (c .args .leg) n _ (pair-passed s a b k n _ (c .fits .contracts) (c .in-Break-pair .ensures tt .value)));
-      state = rw (p .1);
+      step = record {
+        fault = rw (p .1, p .2) (move-refused s a b k (c .args .leg) n _ (pair-passed s a b k n _ (c .fits .contracts) (c .in-Break-pair .ensures tt .value)));
+        state = rw (p .1);
+      };
     }
 
 pub returns-then-had-contracts : need.returns-then-had-contracts
@@ -32,8 +34,8 @@ returns-then-had-contracts c =
     let n = c .args .contracts in
     let p = c .in-Continue-pair .pair in
     let h = pair-passed s a b k n (Ok p) (c .fits .contracts) (c .in-Continue-pair .ensures tt .value) in
-    let had : c .count-at-had .result ≡ getD (s .counts) (cell (p .from .slot) (p .from .series) (c .args .leg)) 0 = c .count-at-had .ensures .value ∙ ap (λ (q : ℕ). getD (s .counts) q 0) (c .place-of-source .ensures .value) in
-    record { fault = move-short s a b k (c .args .leg) n p h (c .at-both .result) (c .at-both .ensures .value) (omega arith); state = refl }
+    let had = counted s (c .args .leg) (p .from) (c .count-at-had .result) (c .place-of-source .result) (c .count-at-had .ensures .value) (c .place-of-source .ensures .value) in
+    record { step = record { fault = move-short s a b k (c .args .leg) n p h (c .at-both .result) (c .at-both .ensures .value) (omega arith); state = refl } }
 
 pub returns-then-has-contracts-gt-CEILING : need.returns-then-has-contracts-gt-CEILING
 returns-then-has-contracts-gt-CEILING c =
@@ -44,9 +46,9 @@ returns-then-has-contracts-gt-CEILING c =
     let n = c .args .contracts in
     let p = c .in-Continue-pair .pair in
     let h = pair-passed s a b k n (Ok p) (c .fits .contracts) (c .in-Continue-pair .ensures tt .value) in
-    let had : c .count-at-had .result ≡ getD (s .counts) (cell (p .from .slot) (p .from .series) (c .args .leg)) 0 = c .count-at-had .ensures .value ∙ ap (λ (q : ℕ). getD (s .counts) q 0) (c .place-of-source .ensures .value) in
-    let has : c .count-at-has .result ≡ getD (s .counts) (cell (p .to .slot) (p .to .series) (c .args .leg)) 0 = c .count-at-has .ensures .value ∙ ap (λ (q : ℕ). getD (s .counts) q 0) (c .place-of-target .ensures .value) in
-    record { fault = move-over s a b k (c .args .leg) n p h (c .at-both-then-has-contracts-gt-CEILING .result) (c .at-both-then-has-contracts-gt-CEILING .ensures .value) (omega arith) (omega arith); state = refl }
+    let had = counted s (c .args .leg) (p .from) (c .count-at-had .result) (c .place-of-source .result) (c .count-at-had .ensures .value) (c .place-of-source .ensures .value) in
+    let has = counted s (c .args .leg) (p .to) (c .count-at-has .result) (c .place-of-target .result) (c .count-at-has .ensures .value) (c .place-of-target .ensures .value) in
+    record { step = record { fault = move-over s a b k (c .args .leg) n p h (c .at-both-then-has-contracts-gt-CEILING .result) (c .at-both-then-has-contracts-gt-CEILING .ensures .value) (omega arith) (omega arith); state = refl } }
 
 pub add-at-requires : need.add-at-requires
 add-at-requires c κs =
@@ -70,10 +72,12 @@ returns c =
     let n = c .args .contracts in
     let p = c .in-Continue-pair .pair in
     let h = pair-passed s a b k n (Ok p) (c .fits .contracts) (c .in-Continue-pair .ensures tt .value) in
-    let had : c .count-at-had .result ≡ getD (s .counts) (cell (p .from .slot) (p .from .series) (c .args .leg)) 0 = c .count-at-had .ensures .value ∙ ap (λ (q : ℕ). getD (s .counts) q 0) (c .place-of-source .ensures .value) in
-    let has : c .count-at-has .result ≡ getD (s .counts) (cell (p .to .slot) (p .to .series) (c .args .leg)) 0 = c .count-at-has .ensures .value ∙ ap (λ (q : ℕ). getD (s .counts) q 0) (c .place-of-target .ensures .value) in
+    let had = counted s (c .args .leg) (p .from) (c .count-at-had .result) (c .place-of-source .result) (c .count-at-had .ensures .value) (c .place-of-source .ensures .value) in
+    let has = counted s (c .args .leg) (p .to) (c .count-at-has .result) (c .place-of-target .result) (c .count-at-has .ensures .value) (c .place-of-target .ensures .value) in
     record {
-      fault = move-passed s a b k (c .args .leg) n p h (omega arith) (omega arith);
-      state = move-done s a b k (c .args .leg) n p h (view (c .take-at .last .self)) (view (c .add-at .last .self)) (c .place-of-source .result) (c .place-of-target .result)
-          (c .place-of-source .ensures .value) (c .place-of-target .ensures .value) (c .take-at .ensures .after) (c .add-at .ensures .after);
+      step = record {
+        fault = move-passed s a b k (c .args .leg) n p h (omega arith) (omega arith);
+        state = move-done s a b k (c .args .leg) n p h (view (c .take-at .last .self)) (view (c .add-at .last .self)) (c .place-of-source .result) (c .place-of-target .result)
+            (c .place-of-source .ensures .value) (c .place-of-target .ensures .value) (c .take-at .ensures .after) (c .add-at .ensures .after);
+      };
     }

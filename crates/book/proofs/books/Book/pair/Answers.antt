@@ -1,8 +1,8 @@
 -- Each way out meets the row of faults that decides there.
-use mathlib.Core.Path.{_≡_, refl, sym, ap, _∙_}
+use mathlib.Core.Path.{refl, ap, _∙_}
 use native.Mathlib.Omega.{arith}
 use Rattle.std.specs.declared.option.Option.{Option}
-use Rattle.std.specs.declared.option.Option.the-variants.{None, Some}
+use Rattle.std.specs.declared.option.Option.the-variants.{Some}
 use Rattle.terms.specs.declared.codes.Code.{Code}
 use Rattle.terms.specs.declared.faults.Fault.{Fault}
 use Rattle.terms.specs.Faults.{with-account}

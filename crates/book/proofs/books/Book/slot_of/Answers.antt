@@ -1,5 +1,5 @@
 -- The row that is found keeps its opening number, which is below the number of accounts.
-use mathlib.Core.Path.{_≡_, refl, sym, ap, _∙_}
+use mathlib.Core.Path.{_≡_, ap, _∙_}
 use native.Mathlib.Omega.{arith}
 use lib.ListN.{take}
 use Rattle.std.specs.declared.option.Option.{Option}

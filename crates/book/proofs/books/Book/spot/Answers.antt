@@ -1,5 +1,5 @@
 -- The dealing is the one that is named, and so are account and series.
-use mathlib.Core.Path.{_≡_, refl, sym, ap, _∙_}
+use mathlib.Core.Path.{refl, _∙_}
 use native.Mathlib.Omega.{arith}
 use Rattle.std.proofs.shelf.Results.{made-weaker}
 use Rattle.book.specs.Found.{Settled, Within}
