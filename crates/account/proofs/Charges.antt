@@ -19,7 +19,7 @@ use Rattle.terms.specs.declared.words.Label.{Label}
 use Rattle.terms.specs.declared.words.Basis.the-variants.{Gross}
 use Rattle.sheet.specs.Given.{Terms}
 use Rattle.charge.specs.Positions.{fits}
-use Rattle.charge.specs.Answers.{limited, answer, too-large, beyond-limit}
+use Rattle.charge.specs.Answers.{limited, answer, too-large, outside}
 use Rattle.charge.specs.Meanings.{Meaning}
 use Rattle.charge.specs.Replies.{amount-answer}
 use Rattle.terms.specs.declared.codes.Code.{Code}
@@ -38,13 +38,13 @@ cond-small true n f z b e =
     rw (← q) (leb-true n 100000000000 (sym b))
 cond-small false n f z b e = absurd (never f z e)
 
-answer-small : (fit : Bool) (n : ℕ) (l : Label) (z : ℤ) → answer fit n l ≡ Ok z → natAbs z ≤ 100000000000
+answer-small : (fit : Bool) (n : ℕ) (l r : Label) (z : ℤ) → answer fit n l r ≡ Ok z → natAbs z ≤ 100000000000
 unfolding limited
-answer-small true n l z e = cond-small (leb n 100000000000) n (too-large l) z refl e
-answer-small false n l z e = absurd (never beyond-limit z e)
+answer-small true n l r z e = cond-small (leb n 100000000000) n (too-large l) z refl e
+answer-small false n l r z e = absurd (never (outside r) z e)
 
 pub amount-small : (m : Meaning) (t : Terms) (p : List ℤ) (z : ℤ) → Ok z ≡ amount-answer m t p → natAbs z ≤ 100000000000
-amount-small m t p z e = answer-small (fits (length (t .rows)) p) (m .charged t p) (m .blamed t p) z (sym e)
+amount-small m t p z e = answer-small (fits (length (t .rows)) p) (m .charged t p) (m .blamed t p) (m .refuses) z (sym e)
 
 -- figures added to an answer
 pub plus-none : {E : Type 0} (r : Result ℤ E) → plus (pos 0) r ≡ r

@@ -5,4 +5,4 @@ pub mod Losses
 pub mod Shorts
 pub mod Months
 pub mod Parts
-pub mod Laws
+pub mod Lawful

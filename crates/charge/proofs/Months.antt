@@ -1,8 +1,8 @@
--- The two totals row by row: joined, neither grows beyond the two, and their difference is the sum of the differences.
-use mathlib.Core.Path.{_≡_, refl}
-use mathlib.Core.List.{List, map}
+-- The two totals row by row: joined, neither grows beyond the two, and their difference is the sum of the differences; of one month, one of them is 0.
+use mathlib.Core.Path.{_≡_, refl, ap}
+use mathlib.Core.List.{List, [], _∷_, map}
 use mathlib.Core.Logic.{⊎-elim}
-use mathlib.Core.Bool.{Bool, true, false, cond}
+use mathlib.Core.Bool.{Bool, true, false, cond, _||_}
 use Prim.Native.Nat.{ℕ, zero, suc, _+_, _-_, _≤_, max, min}
 use native.Mathlib.Omega.{arith}
 use native.Mathlib.Nat.{zero-mul}
@@ -17,6 +17,7 @@ use Rattle.std.specs.declared.option.Option.{Option}
 use Rattle.sheet.specs.declared.rows.Series.{Series}
 use Rattle.charge.specs.Positions.{joined}
 use Rattle.charge.specs.Spread.{month-delta-of, month-delta, seen, month-at, long, short, lean, spread, spread-allowance}
+use Rattle.charge.specs.Laws.{Of-month}
 use Rattle.charge.proofs.Sizes.{one-part, up-add}
 use Rattle.charge.proofs.Dots.{dot-zero, dot-joined}
 use Rattle.charge.proofs.Rates.{rated}
@@ -90,3 +91,34 @@ spread-join rate rows p q e =
     let h = sides-join rows n p q e in
     let law = sides-law (long n rows (joined p q)) (short n rows (joined p q)) (long n rows p) (short n rows p) (long n rows q) (short n rows q) (h .0) (h .1) in
     rated _ _ _ _ (valueOr rate 0) (omega (arith, law, lean-parts (long n rows p) (short n rows p), lean-parts (long n rows q) (short n rows q)))
+
+-- a class of one month: its first series tells the month, no later one does
+sides-none : (rows : List Series) (p : List ℤ) → (long 0 rows p ≡ 0) × (short 0 rows p ≡ 0)
+unfolding long short
+sides-none rows p = (refl, refl)
+
+module _ (m : ℕ) (r : Series) (rest : List Series) (h : Of-month m (r ∷ rest)) (p : List ℤ) where
+  told : (i : ℕ) → seen m (take (suc i) (r ∷ rest)) ≡ true
+  told i = ap (λ b. b || seen m (take i rest)) (eq-eqb (r .key .month) m (h 0 (omega arith)))
+
+  sides-one : (i : ℕ) → i ≤ length (r ∷ rest) → (long i (r ∷ rest) p ≤ up (month-delta m (r ∷ rest) p)) × (short i (r ∷ rest) p ≤ down (month-delta m (r ∷ rest) p))
+  sides-one zero l = let n = sides-none (r ∷ rest) p in (omega arith, omega arith)
+  sides-one (suc zero) l =
+      let n = sides-none (r ∷ rest) p in
+      let s = sides-more (r ∷ rest) p 0 m (h 0 (omega arith)) refl in
+      (omega arith, omega arith)
+  sides-one (suc (suc i)) l =
+      let n = sides-one (suc i) (omega arith) in
+      let s = rw add-one at (sides-skip (r ∷ rest) p (suc i) m (h (suc i) (omega arith)) (told i)) in
+      (omega arith, omega arith)
+
+pub spread-one : (rate : Option ℕ) (m : ℕ) (rows : List Series) → Of-month m rows → (p : List ℤ) → spread rate rows p ≡ 0
+spread-one rate m [] h p =
+    let n = sides-none [] p in
+    let e : min (long 0 [] p) (short 0 [] p) ≡ 0 = omega arith in
+    rw e (zero-mul (valueOr rate 0))
+spread-one rate m (r ∷ rest) h p =
+    let rows = r ∷ rest in
+    let s = sides-one m r rest h p (length rows) (omega arith) in
+    let e : min (long (length rows) rows p) (short (length rows) rows p) ≡ 0 = ⊎-elim (λ z. omega arith) (λ z. omega arith) (one-part (month-delta m rows p)) in
+    rw e (zero-mul (valueOr rate 0))

@@ -5,3 +5,5 @@ pub mod Spread
 pub mod Minimum
 pub mod Meanings
 pub mod Replies
+pub mod Laws
+pub mod Prime

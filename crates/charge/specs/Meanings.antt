@@ -1,4 +1,4 @@
--- What a charge is: its figures in whole cents, never negative, and the label that a figure too large is refused with.
+-- What a charge is: its figures in whole cents, never negative, and the labels that it refuses with.
 use Prim.Native.Nat.{ℕ, _+_, _≤_, max}
 use mathlib.Core.Path.{_≡_}
 use mathlib.Core.List.{List}
@@ -13,12 +13,13 @@ use Rattle.charge.specs.Scanning.{worst}
 use Rattle.charge.specs.Spread.{spread as spread-charge, spread-allowance}
 use Rattle.charge.specs.Minimum.{least as least-charge}
 
--- an amount for a position and an allowance for two, and the label of each where it is too large
+-- an amount for a position and an allowance for two, the label of each where it is too large, and the label that a position outside its limits is refused with
 pub record Meaning : Type 0 where
   pub charged : Terms → List ℤ → ℕ
   pub allowed : Terms → List ℤ → List ℤ → ℕ
   pub blamed : Terms → List ℤ → Label
   pub faulted : Terms → List ℤ → List ℤ → Label
+  pub refuses : Label
 
 -- the empty position has amount 0; the amount of two positions joined is at most their two amounts plus their allowance
 pub record Lawful (m : Meaning) : Type 0 where
@@ -32,6 +33,7 @@ scanning = record {
   allowed = λ t p q. 0;
   blamed = λ t p. Scanning;
   faulted = λ t p q. Scanning;
+  refuses = Scanning;
 }
 
 -- spread: the smaller of the two totals at the spread rate; the allowance is what the leans cross by
@@ -41,6 +43,7 @@ spreading = record {
   allowed = λ t p q. spread-allowance (t .spread-rate) (t .rows) p q;
   blamed = λ t p. Spread;
   faulted = λ t p q. Spread;
+  refuses = Spread;
 }
 
 -- minimum: the greater sum of short counts at the minimum rate; no allowance
@@ -50,6 +53,7 @@ minimum = record {
   allowed = λ t p q. 0;
   blamed = λ t p. Minimum;
   faulted = λ t p q. Minimum;
+  refuses = Minimum;
 }
 
 -- the sum of both figures; the first part is worked out first, and a part's fault goes up whole
@@ -59,6 +63,7 @@ summed a b = record {
   allowed = λ t p q. a .allowed t p q + b .allowed t p q;
   blamed = λ t p. first-blamed (a .charged t p) (a .blamed t p) (b .charged t p) (b .blamed t p) Sum;
   faulted = λ t p q. first-blamed (a .allowed t p q) (a .faulted t p q) (b .allowed t p q) (b .faulted t p q) Sum;
+  refuses = a .refuses;
 }
 
 -- the greater of both figures, likewise
@@ -68,6 +73,7 @@ greater a b = record {
   allowed = λ t p q. max (a .allowed t p q) (b .allowed t p q);
   blamed = λ t p. first-blamed (a .charged t p) (a .blamed t p) (b .charged t p) (b .blamed t p) Greater;
   faulted = λ t p q. first-blamed (a .allowed t p q) (a .faulted t p q) (b .allowed t p q) (b .faulted t p q) Greater;
+  refuses = a .refuses;
 }
 
 -- PRiME's charge: the greater of (scanning plus spread) and the minimum

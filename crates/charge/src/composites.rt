@@ -1,6 +1,9 @@
 //! Charges made of two, their sum and the greater of them, and the charge of the PRiME method.
 ghost use mathlib.Core.Path.{_≡_};
+ghost use lib.IntN.{pos};
+ghost use Rattle.std.specs.Vec.{made};
 ghost use Rattle.charge.specs.Meanings.{Lawful, summed, greater, prime-meaning};
+ghost use Rattle.charge.specs.Prime.{prime-amount};
 ghost use Rattle.charge.specs.Replies.{amount-answer, allowance-answer};
 ghost use Rattle.sheet.specs.Plain.{plain};
 use crate::charges::Charge;
@@ -67,6 +70,7 @@ pub fn prime() -> Prime
 /// What a position costs by the PRiME method.
 pub fn prime_amount(class: &Class, position: &[i64]) -> Result<i64, Fault>
     ensures answer { λ r. ⌜ r ≡ amount-answer prime-meaning (plain (now (class .entry))) (now (position .entry)) ⌝ }
+    ensures figure { λ r. ⌜ made r (λ z. z ≡ pos (prime-amount (plain (now (class .entry))) (now (position .entry)))) ⌝ }
 {
     prime().amount(class, position)
 }

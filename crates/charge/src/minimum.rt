@@ -8,10 +8,10 @@ ghost use Rattle.charge.specs.Positions.{fits};
 ghost use Rattle.charge.specs.Minimum.{shorts};
 ghost use Rattle.charge.specs.Meanings.{minimum};
 use crate::charges::Charge;
-use crate::positions::beyond;
 use crate::positions::both_fitting;
 use crate::positions::fitting;
 use crate::positions::limited;
+use crate::positions::outside;
 use sheet::classes::Class;
 use terms::faults::Fault;
 use terms::words::Kind;
@@ -42,7 +42,7 @@ pub impl Charge for Minimum as MinimumCharge {
 
     fn amount(&self, class: &Class, position: &[i64]) -> Result<i64, Fault> {
         if !fitting(class, position) {
-            return Err(beyond());
+            return Err(outside(Label::Minimum));
         }
         let calls = shorts_of(class, position, Kind::Call);
         let puts = shorts_of(class, position, Kind::Put);
@@ -51,7 +51,7 @@ pub impl Charge for Minimum as MinimumCharge {
 
     fn allowance(&self, class: &Class, one: &[i64], other: &[i64]) -> Result<i64, Fault> {
         if !both_fitting(class, one, other) {
-            return Err(beyond());
+            return Err(outside(Label::Minimum));
         }
         Ok(0)
     }

@@ -6,7 +6,7 @@ ghost use lib.IntN.{pos};
 ghost use lib.Signed.{_≤ℤ_};
 ghost use borrow.Author.Differences.{up};
 ghost use Rattle.charge.specs.Positions.{fits};
-ghost use Rattle.charge.specs.Answers.{limited as limitedTo, beyond-limit};
+ghost use Rattle.charge.specs.Answers.{limited as limitedTo, outside as outsideOf};
 use sheet::classes::Class;
 use terms::faults::Fault;
 use terms::words::Label;
@@ -19,11 +19,11 @@ const COUNT_LIMIT: i64 = 3_200_000;
 /// The greatest figure, in cents.
 const FIGURE_LIMIT: i64 = 100_000_000_000;
 
-/// The fault of a position that does not fit.
-pub fn beyond() -> Fault
-    ensures value { λ r. ⌜ r ≡ beyond-limit ⌝ }
+/// The fault of a position outside its limits, with the label of the charge that refuses it.
+pub fn outside(label: Label) -> Fault
+    ensures value { λ r. ⌜ r ≡ outsideOf label ⌝ }
 {
-    Fault::new(Refusal::Limit, Layer::Charge)
+    Fault::new(Refusal::Limit, Layer::Charge).with_label(label)
 }
 
 /// Whether the position has a count for each series of the class, and none beyond its limit.

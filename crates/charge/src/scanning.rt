@@ -8,10 +8,10 @@ ghost use Rattle.charge.specs.Positions.{fits};
 ghost use Rattle.charge.specs.Scanning.{loss};
 ghost use Rattle.charge.specs.Meanings.{scanning};
 use crate::charges::Charge;
-use crate::positions::beyond;
 use crate::positions::both_fitting;
 use crate::positions::fitting;
 use crate::positions::limited;
+use crate::positions::outside;
 use sheet::classes::Class;
 use terms::faults::Fault;
 use terms::words::Label;
@@ -38,7 +38,7 @@ pub impl Charge for Scanning as ScanningCharge {
 
     fn amount(&self, class: &Class, position: &[i64]) -> Result<i64, Fault> {
         if !fitting(class, position) {
-            return Err(beyond());
+            return Err(outside(Label::Scanning));
         }
         let mut worst = 0;
         for k in 0..16 {
@@ -52,7 +52,7 @@ pub impl Charge for Scanning as ScanningCharge {
 
     fn allowance(&self, class: &Class, one: &[i64], other: &[i64]) -> Result<i64, Fault> {
         if !both_fitting(class, one, other) {
-            return Err(beyond());
+            return Err(outside(Label::Scanning));
         }
         Ok(0)
     }

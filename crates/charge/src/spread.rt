@@ -11,10 +11,10 @@ ghost use Rattle.charge.specs.Positions.{fits};
 ghost use Rattle.charge.specs.Spread.{month-delta, seen, long, short, lean, crossing};
 ghost use Rattle.charge.specs.Meanings.{spreading};
 use crate::charges::Charge;
-use crate::positions::beyond;
 use crate::positions::both_fitting;
 use crate::positions::fitting;
 use crate::positions::limited;
+use crate::positions::outside;
 use sheet::classes::Class;
 use terms::faults::Fault;
 use terms::words::Label;
@@ -115,7 +115,7 @@ pub impl Charge for Spread as SpreadCharge {
 
     fn amount(&self, class: &Class, position: &[i64]) -> Result<i64, Fault> {
         if !fitting(class, position) {
-            return Err(beyond());
+            return Err(outside(Label::Spread));
         }
         let (longs, shorts) = sides(class, position);
         limited(at_rate(class, longs.min(shorts)), Label::Spread)
@@ -123,7 +123,7 @@ pub impl Charge for Spread as SpreadCharge {
 
     fn allowance(&self, class: &Class, one: &[i64], other: &[i64]) -> Result<i64, Fault> {
         if !both_fitting(class, one, other) {
-            return Err(beyond());
+            return Err(outside(Label::Spread));
         }
         let lean = lean_of(class, one);
         let other_lean = lean_of(class, other);

@@ -1,6 +1,6 @@
 //! The close: an input is read, its book margined, its report printed or its fault told.
 pub mod days;
 pub mod ending;
-mod memory;
+pub mod memory;
 pub mod printing;
 pub mod telling;

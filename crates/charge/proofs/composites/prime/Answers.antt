@@ -1,4 +1,4 @@
-use Rattle.charge.proofs.Laws.{prime-lawful}
+use Rattle.charge.proofs.Lawful.{prime-lawful}
 use Rattle.charge.proofs.composites.prime.Needs as need
 
 pub returns : need.returns

@@ -38,4 +38,4 @@ pub returns : need.returns
 returns c =
     let e : c .max .result ≡ pos (most (c .args .class .now .series .now) (c .args .position .now)) = omega (arith, ints, clamps) in
     let t = product-of _ _ (c .args .class .now .«minimum_rate») e (omega (arith, ints)) (c .args .class .now .inside .1) .is in
-    record { answer = answered _ _ _ _ (sym (c .fitting .ensures .value) ∙ c .if-not-fitting .left) (c .limited .ensures .answer ∙ ap (λ z. limited (up z) Own) t) }
+    record { answer = answered _ _ _ _ _ (sym (c .fitting .ensures .value) ∙ c .if-not-fitting .left) (c .limited .ensures .answer ∙ ap (λ z. limited (up z) Own) t) }

@@ -1,4 +1,4 @@
-use Rattle.charge.proofs.Laws.{minimum-lawful}
+use Rattle.charge.proofs.Lawful.{minimum-lawful}
 use Rattle.charge.proofs.minimum.MinimumCharge.the-impl.Needs as need
 
 pub lawful-law : need.lawful-law

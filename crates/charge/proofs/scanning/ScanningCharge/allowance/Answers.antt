@@ -6,4 +6,4 @@ use Rattle.charge.proofs.scanning.ScanningCharge.allowance.Needs as need
 
 pub returns : need.returns
 unfolding limited
-returns c = record { answer = answered _ 0 Own _ (sym (c .both-fitting .ensures .value) ∙ c .if-not-both-fitting .left) refl }
+returns c = record { answer = answered _ 0 Own _ _ (sym (c .both-fitting .ensures .value) ∙ c .if-not-both-fitting .left) refl }

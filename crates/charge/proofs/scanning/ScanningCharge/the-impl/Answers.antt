@@ -1,4 +1,4 @@
-use Rattle.charge.proofs.Laws.{scanning-lawful}
+use Rattle.charge.proofs.Lawful.{scanning-lawful}
 use Rattle.charge.proofs.scanning.ScanningCharge.the-impl.Needs as need
 
 pub lawful-law : need.lawful-law

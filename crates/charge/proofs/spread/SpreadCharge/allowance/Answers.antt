@@ -20,4 +20,4 @@ returns c =
     let e : c .crossing-of-crossing .result ≡ pos n = omega (arith, ints) in
     let f = toZ-ofZ w64 (c .crossing-of-crossing .result) (omega (arith, ints, c .crossing-of-crossing .ok)) ∙ e in
     let t = toZ-ofZ w64 (c .at-rate .result) (omega (arith, ints, c .at-rate .ok)) ∙ c .at-rate .ensures .value ∙ ap (λ z. pos (up z * rate)) f in
-    record { answer = answered _ _ _ _ (sym (c .both-fitting .ensures .value) ∙ c .if-not-both-fitting .left) (c .limited .ensures .answer ∙ ap (λ z. limited (up z) Own) t) }
+    record { answer = answered _ _ _ _ _ (sym (c .both-fitting .ensures .value) ∙ c .if-not-both-fitting .left) (c .limited .ensures .answer ∙ ap (λ z. limited (up z) Own) t) }

@@ -22,4 +22,4 @@ returns c =
     let e : c .min .result ≡ pos n = omega (arith, ints, clamps) in
     let f = toZ-ofZ w64 (c .min .result) (omega (arith, ints, c .min .ok)) ∙ e in
     let t = toZ-ofZ w64 (c .at-rate .result) (omega (arith, ints, c .at-rate .ok)) ∙ c .at-rate .ensures .value ∙ ap (λ z. pos (up z * rate)) f in
-    record { answer = answered _ _ _ _ (sym (c .fitting .ensures .value) ∙ c .if-not-fitting .left) (c .limited .ensures .answer ∙ ap (λ z. limited (up z) Own) t) }
+    record { answer = answered _ _ _ _ _ (sym (c .fitting .ensures .value) ∙ c .if-not-fitting .left) (c .limited .ensures .answer ∙ ap (λ z. limited (up z) Own) t) }

@@ -1,16 +1,19 @@
--- Each charge is lawful: the three of their own by their figures, a composite by its parts.
+-- Each charge is lawful: the three of their own by their figures, a composite by its parts. And what holds of each by itself.
 use Prim.Native.Nat.{_*_, max}
 use mathlib.Core.Path.{_≡_}
+use mathlib.Core.Logic.{inl, inr, ⊎-elim}
 use native.Mathlib.Omega.{arith}
 use native.Mathlib.Nat.{zero-mul}
+use Rattle.std.proofs.shelf.Tests.{cases-lt}
 use Rattle.terms.specs.declared.words.Kind.the-variants.{Call, Put}
 use Rattle.charge.specs.Positions.{joined}
 use Rattle.charge.specs.Minimum.{shorts}
 use Rattle.charge.specs.Meanings.{Meaning, Lawful, scanning, spreading, minimum, summed, greater, prime-meaning}
+use Rattle.charge.specs.Laws.{Scanning-law, Spread-law, Greater-law}
 use Rattle.charge.proofs.Rates.{rated}
-use Rattle.charge.proofs.Losses.{worst-zero, worst-join}
+use Rattle.charge.proofs.Losses.{worst-zero, worst-join, worst-covers, worst-reached}
 use Rattle.charge.proofs.Shorts.{shorts-zero, shorts-join}
-use Rattle.charge.proofs.Months.{spread-zero, spread-join}
+use Rattle.charge.proofs.Months.{spread-zero, spread-join, spread-one}
 
 pub scanning-lawful : Lawful scanning
 scanning-lawful = record {
@@ -47,3 +50,12 @@ greater-lawful a b v w = record {
 
 pub prime-lawful : Lawful prime-meaning
 prime-lawful = greater-lawful (summed scanning spreading) minimum (summed-lawful scanning spreading scanning-lawful spreading-lawful) minimum-lawful
+
+pub scanning-law : Scanning-law
+scanning-law t p = (λ k h. worst-covers 16 (t .rows) p k h, worst-reached 16 (t .rows) p)
+
+pub spread-law : Spread-law
+spread-law t m h p = spread-one (t .spread-rate) m (t .rows) h p
+
+pub greater-law : Greater-law
+greater-law a b t p = (omega arith, omega arith, ⊎-elim (λ l. inr (omega arith)) (λ l. inl (omega arith)) (cases-lt (a .charged t p) (b .charged t p)))
