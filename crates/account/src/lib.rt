@@ -1,4 +1,6 @@
 //! What one account owes, by one rule for every charge.
+#![tactic(auto)]
+
 pub mod figures;
 pub mod offset;
 pub mod pieces;

@@ -1,4 +1,6 @@
 //! Dealing on accounts: a book over a sealed sheet.
+#![tactic(auto)]
+
 pub mod books;
 pub mod calls;
 pub mod counts;

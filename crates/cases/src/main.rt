@@ -2,6 +2,8 @@
 //!
 //! A case begins with `= name`. Then `|text` is a line of the case with its line feed, `+text` is text without one,
 //! and `*NNNNNNN|text` is a line so many times.
+#![tactic(auto)]
+
 use closing::days::{Day, margin_day};
 use closing::telling::tell;
 use std::alloc::AllocError;

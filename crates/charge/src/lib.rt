@@ -1,4 +1,6 @@
 //! What a position costs.
+#![tactic(auto)]
+
 pub mod charges;
 pub mod composites;
 pub mod laws;

@@ -1,4 +1,6 @@
 //! What each side brings: collateral in each currency, and what is called of it.
+#![tactic(auto)]
+
 pub mod calls;
 pub mod ledger;
 pub mod records;

@@ -1,4 +1,6 @@
 //! Takes each line to the sheet or the book, and margins the book at the close.
+#![tactic(auto)]
+
 pub mod book_desk;
 pub mod sheet_desk;
 pub mod statements;

@@ -1,4 +1,6 @@
 //! Reads a market sheet and a day's dealing from standard input, and prints what each account owes and what each side is called for.
+#![tactic(auto)]
+
 use closing::ending::{Refused, close};
 
 fn main(rt: HostRuntime) -> Result<(), Refused> {

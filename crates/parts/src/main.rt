@@ -1,5 +1,7 @@
 //! The parts of PRiME's charge on the clearing house's example, a charge that a broker brings in, and accounts margined by PRiME's charge and by others,
 //! each beside the figure that is published or worked out by hand.
+#![tactic(auto)]
+
 mod accounts;
 mod cents;
 mod example;

@@ -1,4 +1,6 @@
 //! Rows in ascending order of key, in memory that the caller lends.
+#![tactic(auto)]
+
 ghost use Rattle.std.specs.Prelude.{◌≡◌, ℕ, ◌+◌, ◌<◌, ◌≤◌, min, List, ◌++◌, length, take, drop, nat_lt};
 ghost use Rattle.std.specs.List.{slice_get};
 ghost use Rattle.terms.specs.Order.{order};

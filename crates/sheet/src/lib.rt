@@ -1,4 +1,6 @@
 //! The market sheet: rates, classes and series, written as a draft and then sealed.
+#![tactic(auto)]
+
 pub mod calls;
 pub mod classes;
 pub mod drafts;

@@ -1,4 +1,6 @@
 //! The words that every layer uses: currencies, sides, legs, codes, keys, names and faults.
+#![tactic(auto)]
+
 pub mod codes;
 pub mod faults;
 pub mod keys;

@@ -1,11 +1,12 @@
 //! An account's name: 1 to 20 capitals, digits, hyphens and inner blanks.
-ghost use Rattle.std.specs.Prelude.{◌≡◌, ◌≤◌, ◌++◌, length, drop, Decides};
+ghost use Rattle.std.specs.Prelude.{◌≡◌, ◌==◌, ◌≤◌, ◌++◌, length, drop, Decides};
 ghost use Rattle.std.specs.List.{list_all};
 ghost use Rattle.terms.specs.Names.{name_byte, name_form, named, filled_out, spelled};
 ghost use Rattle.terms.specs.Order.{order};
 ghost use Rattle.std.specs.Cmp.Rules.{comparing};
+ghost use Rattle.std.specs.Ordering.{on};
+ghost use Rattle.std.specs.Cmp.Lexicographic.{pointwise};
 ghost use Rattle.std.proofs.Common.{rules};
-ghost use Rattle.std.specs.Cmp as Keys;
 
 use std::cmp::Ordering;
 
@@ -19,11 +20,13 @@ pub struct Name {
 }
 
 impl PartialEq for Name {
-    ghost equals = { λ x y r. Decides r (x ≡ y) };
+    ghost eq = { on (λ n. n.text) (pointwise ◌==◌) };
 
-    ghost laws = { Keys.partial_equiv_from_equiv (Prim.search (comparing, rules)) };
+    ghost laws = { Prim.search (comparing, rules) };
 
-    fn eq(&self, other: &Name) -> bool {
+    fn eq(&self, other: &Name) -> bool
+        ensures decides { Decides result (self.now ≡ other.now) }
+    {
         self.text == other.text
     }
 }

@@ -5,8 +5,8 @@ use Rattle.std.specs.List.{list_all}
 use Rattle.terms.specs.Names.{name_byte}
 use Rattle.terms.proofs.names.all_name_bytes.Goals as goal
 
-pub returns-then-not-is-name-byte : goal.returns-then-not-is-name-byte
-returns-then-not-is-name-byte c = let e = at_drop_more (list_all name_byte) c.args.text.now c.loop-b.b-index 0 c.loop-b-test.true in grind (arith, nat_tests)
+pub returns-then-not-is_name_byte : goal.returns-then-not-is_name_byte
+returns-then-not-is_name_byte c = let e = at_drop_more (list_all name_byte) c.args.text.now c.loop-b.b-index 0 c.loop-b-test.true in grind (arith, nat_tests)
 
 pub loop-b-preserved : goal.loop-b-preserved
 loop-b-preserved c = let e = at_drop_more (list_all name_byte) c.args.text.now c.loop-b.b-index 0 c.loop-b-test.true in grind (arith, nat_tests)

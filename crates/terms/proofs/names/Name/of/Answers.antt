@@ -12,6 +12,6 @@ pub returns : goal.returns
 unfolding made
 returns c =
     let t = c.args.text.now in
-    let form : name_form t ≡ true = sym c.has-form.ensures.value ∙ c.if-not-has-form.false in
-    let text = c.write-front.ensures.after ∙ ap (λ (l : List ℕ). t ++ l) (drop-replicate (length t) 20 32) in
+    let form : name_form t ≡ true = sym c.has_form.ensures.value ∙ c.if-not-has_form.false in
+    let text = c.write_front.ensures.after ∙ ap (λ (l : List ℕ). t ++ l) (drop-replicate (length t) 20 32) in
     record { value = rw form (ap (λ (l : List ℕ). Some (made l)) text) }

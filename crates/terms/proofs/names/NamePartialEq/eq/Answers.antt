@@ -11,4 +11,4 @@ pub returns : goal.returns
 unfolding made
 returns c =
     let h = slice_eq-Decides Decides-eqb _ _ _ c.eq.ensures in
-    (λ e. ap made (h.0 e), λ e. h.1 (ap (λ (n : Name). n.text) e))
+    record { decides = (λ e. ap made (h.0 e), λ e. h.1 (ap (λ (n : Name). n.text) e)) }
