@@ -1,15 +1,20 @@
 -- Rows in ascending order of their rank, a list of numbers.
-use Rattle.std.specs.Prelude.{◌≡◌, ℕ, suc, ◌<◌, ◌≤◌, min, cond, not, T, List, ◌∷◌, ◌++◌, length, take, drop, is_some, Some, None, Ok, Err, Option, Result, ◌≢◌, nat_lt, slice_index_or}
+use Rattle.std.specs.Prelude.{◌≡◌, ◌&&◌, Bool, true, [], ℕ, suc, ◌<◌, ◌≤◌, min, cond, not, T, List, ◌∷◌, ◌++◌, length, take, drop, is_some, Some, None, Ok, Err, Option, Result, ◌≢◌, nat_lt, slice_index_or}
 use Rattle.terms.specs.declared.words.Refusal.{Refusal}
 use Rattle.terms.specs.declared.words.Refusal.TheVariants.{Twice, Full}
 use Rattle.terms.specs.Order.{order}
+use Rattle.std.specs.declared.cmp.Ordering.{Ordering}
 use Rattle.std.specs.Ordering.{is_lt, is_eq}
-use Rattle.std.specs.Map.Invariant.{is-strictly-sorted-by}
-use Rattle.std.specs.List.{prefix_len}
+use Rattle.std.specs.List.{prefix_len, list_all}
+
+-- whether each element is below those after it
+abbrev pub is_strictly_sorted_by : {K : Type 0} → (K → K → Ordering) → List K → Bool
+is_strictly_sorted_by c [] = true
+is_strictly_sorted_by c (x ∷ xs) = list_all (λ y. is_lt (c x y)) xs && is_strictly_sorted_by c xs
 
 -- each row is before those after it
 abbrev pub Ascending : {R : Type 0} → (R → List ℕ) → List R → Type 0
-Ascending rank rows = T (is-strictly-sorted-by (λ a b. order (rank a) (rank b)) rows)
+Ascending rank rows = T (is_strictly_sorted_by (λ a b. order (rank a) (rank b)) rows)
 
 -- how many rows stand before the key: where a row with this key has its place
 abbrev pub place : {R : Type 0} → (R → List ℕ) → List ℕ → List R → ℕ

@@ -61,8 +61,8 @@ impl<'a, R: Keyed> Register<'a, R> {
 
     /// The place of the row that has the key.
     pub fn find(&self, key: &R::Key) -> Option<usize>
-        ensures answer { result ≡ sought rank (wanted key.now) (take self.now.len self.now.rows.now) }
-        ensures means { Found rank (wanted key.now) (take self.now.len self.now.rows.now) result }
+        ensures answer { result ≡ sought R.rank (R.wanted key.now) (take self.now.len self.now.rows.now) }
+        ensures means { Found R.rank (R.wanted key.now) (take self.now.len self.now.rows.now) result }
     {
         let rows = &*self.rows;
         place_with(front(rows, self.len), key)
@@ -78,7 +78,7 @@ impl<'a, R: Keyed> Register<'a, R> {
     /// Puts a row in its place, unless its key is there (4), or the limit or the lent room is reached (6).
     pub fn insert(&mut self, row: R, limit: usize) -> Result<usize, Refusal>
         ensures same { self.new.rows.ghost_name ≡ self.old.rows.ghost_name }
-        ensures entry { Entry rank limit self.old.len self.old.rows.now row result self.new.len self.new.rows.now }
+        ensures entry { Entry R.rank limit self.old.len self.old.rows.now row result self.new.len self.new.rows.now }
     {
         let key = row.key();
         if self.find(&key).is_some() {
@@ -103,7 +103,7 @@ impl<'a, R: Keyed> Register<'a, R> {
     }
 
     fn place(&self, key: &R::Key) -> usize
-        ensures value { result ≡ place rank (wanted key.now) (take self.now.len self.now.rows.now) }
+        ensures value { result ≡ place R.rank (R.wanted key.now) (take self.now.len self.now.rows.now) }
     {
         let rows = &*self.rows;
         place_of(front(rows, self.len), key)
@@ -112,7 +112,7 @@ impl<'a, R: Keyed> Register<'a, R> {
 
 /// The place of the first row that has the key.
 pub fn place_with<R: Keyed>(rows: &[R], key: &R::Key) -> Option<usize>
-    ensures value { result ≡ sought rank (wanted key.now) rows.now }
+    ensures value { result ≡ sought R.rank (R.wanted key.now) rows.now }
 {
     for i in 0..rows.len() {
         match rows[i].compare(key) {
@@ -125,7 +125,7 @@ pub fn place_with<R: Keyed>(rows: &[R], key: &R::Key) -> Option<usize>
 
 /// How many rows stand before the key.
 fn place_of<R: Keyed>(rows: &[R], key: &R::Key) -> usize
-    ensures value { result ≡ place rank (wanted key.now) rows.now }
+    ensures value { result ≡ place R.rank (R.wanted key.now) rows.now }
 {
     for i in 0..rows.len() {
         match rows[i].compare(key) {

@@ -1,4 +1,4 @@
-use Rattle.std.proofs.Common.{◌≡◌, ◌<◌, ◌≤◌, min, true, false, ltb, length, take, is_some, Ok, sym, refl, ap, ◌∙◌, subst, add-one, arith}
+use Rattle.std.proofs.Common.{◌≡◌, ◌<◌, ◌≤◌, min, true, false, ltb, length, take, is_some, Ok, sym, refl, ap, ◌∙◌, add-one, arith}
 use Rattle.register.specs.Rows.{place, sought}
 use Rattle.register.proofs.Order.{ascending_inserted}
 use Rattle.register.proofs.Steps.{place_within, answered_ok, opened_rows, opened_spare, room_below}
@@ -8,13 +8,13 @@ pub shift-requires : goal.shift-requires
 shift-requires g c =
     let n = c.args.self.now.len in
     let xs = c.args.self.now.rows.now in
-    let lt : n < length xs = (room_below xs n c.args.limit (sym c.has-room.ensures.value ∙ c.if-not-has-room.false)).0 in
+    let lt : n < length xs = (room_below xs n c.args.limit (sym c.has_room.ensures.value ∙ c.if-not-has_room.false)).0 in
     let le = place_within g.R.Keyed.rank (g.R.Keyed.wanted c.key-key.result) xs n (omega arith) in
     record { place = rw c.place-i.ensures.value le; room = lt }
 
-pub overflow-add-self : goal.overflow-add-self
-overflow-add-self g c =
-    let few = (room_below c.args.self.now.rows.now c.args.self.now.len c.args.limit (sym c.has-room.ensures.value ∙ c.if-not-has-room.false)).1 in
+pub overflow_add-self : goal.overflow_add-self
+overflow_add-self g c =
+    let few = (room_below c.args.self.now.rows.now c.args.self.now.len c.args.limit (sym c.has_room.ensures.value ∙ c.if-not-has_room.false)).1 in
     omega (arith, few, c.ranges.limit.fits)
 
 pub returns : goal.returns
@@ -24,12 +24,12 @@ returns g c =
     let n = c.args.self.now.len in
     let xs = c.args.self.now.rows.now in
     let i = c.place-i.result in
-    let free : ltb (length (take n xs)) (min c.args.limit (length xs)) ≡ true = sym c.has-room.ensures.value ∙ c.if-not-has-room.false in
+    let free : ltb (length (take n xs)) (min c.args.limit (length xs)) ≡ true = sym c.has_room.ensures.value ∙ c.if-not-has_room.false in
     let lt : n < length xs = (room_below xs n c.args.limit free).0 in
     let few : n < c.args.limit = (room_below xs n c.args.limit free).1 in
     let at : i ≡ place rank (rank row) (take n xs) = c.place-i.ensures.value ∙ ap (λ k. place rank k (take n xs)) c.key-key.ensures.value in
     let le : i ≤ n = rw at (place_within rank (rank row) xs n (omega arith)) in
-    let none : is_some (sought rank (rank row) (take n xs)) ≡ false = ap (λ k. is_some (sought rank k (take n xs))) (sym c.key-key.ensures.value) ∙ ap is_some (sym c.find.ensures.answer) ∙ sym c.if-is-some.ensures in
+    let none : is_some (sought rank (rank row) (take n xs)) ≡ false = ap (λ k. is_some (sought rank k (take n xs))) (sym c.key-key.ensures.value) ∙ ap is_some (sym c.find.ensures.answer) ∙ sym c.if-is_some.ensures in
     record {
       same = refl;
       entry = record {

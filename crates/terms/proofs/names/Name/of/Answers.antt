@@ -1,7 +1,7 @@
 -- Twenty blanks with the text written over their front are the text with blanks behind it.
-use Rattle.std.proofs.Common.{◌≡◌, ℕ, true, List, ◌++◌, length, replicate, Some, sym, ap, ◌∙◌}
+use Rattle.std.proofs.Common.{◌≡◌, ℕ, true, List, ◌++◌, length, Some, sym, ap, ◌∙◌}
 use Rattle.std.proofs.lemmas.List.{drop-replicate}
-use Rattle.terms.specs.Names.{name_form, named}
+use Rattle.terms.specs.Names.{name_form}
 use Rattle.terms.specs.declared.names.Name.{Name}
 use Rattle.terms.proofs.names.Name.of.Goals as goal
 
