@@ -1,5 +1,5 @@
 -- What the tests of the sheet say of a class.
-use Rattle.std.proofs.Common.{◌≡◌, ℕ, zero, suc, ◌*◌, ◌<◌, ◌≤◌, Bool, true, T, leb, List, [], ◌∷◌, map, length, get_or, ℤ, pos, nat_abs, unwrap_or, subst, arith}
+use Rattle.std.proofs.Common.{◌≡◌, ℕ, zero, suc, ◌*◌, ◌<◌, ◌≤◌, Bool, true, T, leb, List, [], ◌∷◌, map, length, get_or, ℤ, pos, nat_abs, unwrap_or, arith}
 use Rattle.std.specs.Ordering.{is_eq}
 use Rattle.std.specs.List.{AllByRecursion as All, list_all}
 use Rattle.std.proofs.ByRecursion.{All-weaker, all_kept_by, All-get_or}

@@ -1,5 +1,5 @@
 -- What the tests of a call make of its fault, and what an entry makes of the draft: together, the step.
-use Rattle.std.proofs.Common.{◌≡◌, ℕ, min, Bool, true, false, ◌&&◌, List, length, take, ℤ, is_some, Some, None, Ok, Err, Option, sym, refl, ap, ◌∙◌, subst}
+use Rattle.std.proofs.Common.{◌≡◌, ℕ, min, Bool, true, false, not, ◌&&◌, List, length, take, ℤ, is_some, Some, None, Ok, Err, Option, sym, refl, ap, ◌∙◌}
 use Rattle.std.proofs.lemmas.Bool.{true≢false, cond-true, cond-false, not-true, not_from_false, and_from}
 use Rattle.terms.specs.Codes.{lettered}
 use Rattle.terms.specs.Faults.{with_class, with_currency}
@@ -53,6 +53,14 @@ room_fault b d f e = ap (λ x. Some (book x)) e ∙ sym (cond-false b None (Some
 
 pub room_passed : (b : Bool) → b ≡ true → None ≡ demand b (book Full) None
 room_passed b e = sym (cond-true b None (Some (book Full)) e)
+
+-- ---- a class whose code is there
+pub class_twice : (s : State) (code : Code) (c : Currency) (spread : Option ℤ) (minimum : ℤ) (row : ClassRow) → Some row ≡ class_of code c spread minimum → is_some (sought class_rank (lettered code) s.classes) ≡ true → Step s (Class code c spread minimum) (Some (with_class code (book Twice))) s
+class_twice s code c spread minimum row made seen = record {
+  fault = sym (cond-true (terms_fit code spread minimum) _ (Some (book Limit)) (class_row_is code c spread minimum row made).0
+      ∙ cond-false (free class_rank (lettered code) s.classes) _ (Some (with_class code (book Twice))) (ap not seen));
+  state = refl;
+}
 
 -- ---- a class is put in, or there is no room
 abbrev draft : List ℕ → List ClassRow → List Series → ℕ → ℕ → State

@@ -15,7 +15,7 @@ returns-in-Greater c = record { value = omega (arith, prefix_len-drop_no (throug
 
 pub loop-i-preserved : goal.loop-i-preserved
 loop-i-preserved c =
-    let pass = rw c.compare.ensures.value at (not_greater _ c.in-default.not-Greater) in
+    let pass = rw c.compare.ensures.value at (not_greater _ c.in_default.not-Greater) in
     omega (arith, prefix_len-drop_yes (through c.args.code.now) c.args.rows.now c.loop-i.i no_series c.loop-i-test.true pass)
 
 pub returns : goal.returns

@@ -6,9 +6,9 @@ use Rattle.sheet.specs.Rows.{before}
 use Rattle.sheet.proofs.Parts.{no_series}
 use Rattle.sheet.proofs.ranges.first_of.Goals as goal
 
-pub returns-in-default : goal.returns-in-default
-returns-in-default c =
-    let no_less = rw c.compare.ensures.value at (not_less _ c.in-default.not-Less) in
+pub returns-in_default : goal.returns-in_default
+returns-in_default c =
+    let no_less = rw c.compare.ensures.value at (not_less _ c.in_default.not-Less) in
     record { value = omega (arith, prefix_len-drop_no (before c.args.code.now) c.args.rows.now c.loop-i.i no_series c.loop-i-test.true no_less) }
 
 pub loop-i-preserved : goal.loop-i-preserved
