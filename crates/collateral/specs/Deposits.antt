@@ -1,5 +1,5 @@
 -- What a deposit does, and what is called of a side.
-use Rattle.std.specs.Prelude.{◌≡◌, ℕ, ◌+◌, ◌-◌, not, List, ℤ, is_some, Some, None, Option, nat_le, nat_lt, slice_index, slice_index_or, slice_set}
+use Rattle.std.specs.Prelude.{ℕ, ◌+◌, ◌-◌, not, List, ℤ, is_some, Some, None, Option, nat_le, nat_lt, slice_index, slice_index_or, slice_set}
 use borrow.Author.Differences.{up}
 use Rattle.terms.specs.declared.faults.Fault.{Fault}
 use Rattle.terms.specs.declared.words.Currency.{Currency}

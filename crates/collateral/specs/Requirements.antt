@@ -1,5 +1,5 @@
 -- A side's requirement: the sum of what its accounts owe, each at least 0.
-use Rattle.std.specs.Prelude.{ℕ, ◌+◌, ◌<◌, ◌≤◌, Bool, true, false, cond, List, [], ◌∷◌, length, slice_index}
+use Rattle.std.specs.Prelude.{ℕ, ◌+◌, Bool, true, false, cond, List, [], ◌∷◌, slice_index}
 use Rattle.terms.specs.declared.words.Currency.{Currency}
 use Rattle.terms.specs.declared.words.Side.{Side}
 use Rattle.terms.specs.declared.words.Side.TheVariants.{Client, House}
