@@ -35,7 +35,7 @@ pub fn letter_at<'a>(s: &'a [u8]) -> Option<(u8, &'a [u8])>
 pub fn is_end(s: &[u8]) -> bool
     ensures { MatchBool result (s.now ≡ 10 ∷ []) (s.now ≢ 10 ∷ []) }
 {
-    s == b"\n"
+    s == b"\n".as_slice()
 }
 
 /// How many blanks a field begins with.

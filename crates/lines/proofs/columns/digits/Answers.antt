@@ -19,11 +19,11 @@ returns-then-d-lt48 c n h e = omega (arith, (is_figure c.args.text.now n c.loop-
 pub returns-then-d-gt57 : goal.returns-then-d-gt57
 returns-then-d-gt57 c n h e = omega (arith, (is_figure c.args.text.now n c.loop-c.c-index h e c.loop-c-test.true).1)
 
-pub overflow-mul-n : goal.overflow-mul-n
-overflow-mul-n c = omega (arith, bound_room c.loop-c.n c.loop-c.c-index c.loop-c.invariant.1 (omega arith))
+pub overflow_mul-n : goal.overflow_mul-n
+overflow_mul-n c = omega (arith, bound_room c.loop-c.n c.loop-c.c-index c.loop-c.invariant.1 (omega arith))
 
-pub overflow-add-n : goal.overflow-add-n
-overflow-add-n c = omega (arith, bound_room c.loop-c.n c.loop-c.c-index c.loop-c.invariant.1 (omega arith))
+pub overflow_add-n : goal.overflow_add-n
+overflow_add-n c = omega (arith, bound_room c.loop-c.n c.loop-c.c-index c.loop-c.invariant.1 (omega arith))
 
 pub loop-c-preserved : goal.loop-c-preserved
 loop-c-preserved c = (

@@ -7,19 +7,19 @@ use Rattle.lines.proofs.record.read_array.Goals as goal
 pub loop-k-init : goal.loop-k-init
 loop-k-init c = (rows_none _ _ refl, refl)
 
-pub returns-in-err-z : goal.returns-in-err-z
-returns-in-err-z c = rw c.from-residual.ensures (rows_alien _ _ _ c.loop-k.invariant.0 c.in-err-z.ensures (omega (arith, length-take-le c.loop-k.k c.loop-k.found (omega arith))), refl)
+pub returns-in_err-z : goal.returns-in_err-z
+returns-in_err-z c = rw c.from_residual.ensures (rows_alien _ _ _ c.loop-k.invariant.0 c.in_err-z.ensures (omega (arith, length-take-le c.loop-k.k c.loop-k.found (omega arith))), refl)
 
 pub loop-k-preserved : goal.loop-k-preserved
 loop-k-preserved c =
-    let f : SFits w64 c.in-ok-z.z = search rules in
+    let f : SFits w64 c.in_ok-z.z = search rules in
     simp to_z-of_z (
-      rw (take_more_set c.loop-k.found c.loop-k.k c.in-ok-z.z (omega arith)) (rows_more _ _ _ _ _ c.loop-k.invariant.0 c.in-ok-z.ensures),
-      length-set c.loop-k.found c.loop-k.k c.in-ok-z.z ∙ c.loop-k.invariant.1,
+      rw (take_more_set c.loop-k.found c.loop-k.k c.in_ok-z.z (omega arith)) (rows_more _ _ _ _ _ c.loop-k.invariant.0 c.in_ok-z.ensures),
+      length-set c.loop-k.found c.loop-k.k c.in_ok-z.z ∙ c.loop-k.invariant.1,
     )
 
-pub returns-then-is-end : goal.returns-then-is-end
-returns-then-is-end c = (rows_end _ c.loop-k.found c.loop-k.k _ c.loop-k.invariant.0 c.loop-k.invariant.1 c.loop-k-test.false c.if-is-end.ensures, tt)
+pub returns-then-is_end : goal.returns-then-is_end
+returns-then-is_end c = (rows_end _ c.loop-k.found c.loop-k.k _ c.loop-k.invariant.0 c.loop-k.invariant.1 c.loop-k-test.false c.if-is_end.ensures, tt)
 
-pub returns-else-is-end : goal.returns-else-is-end
-returns-else-is-end c = (rows_no_end _ c.loop-k.found c.loop-k.k _ c.loop-k.invariant.0 c.loop-k.invariant.1 c.loop-k-test.false c.if-is-end.ensures, refl)
+pub returns-else-is_end : goal.returns-else-is_end
+returns-else-is_end c = (rows_no_end _ c.loop-k.found c.loop-k.k _ c.loop-k.invariant.0 c.loop-k.invariant.1 c.loop-k-test.false c.if-is_end.ensures, refl)

@@ -1,8 +1,8 @@
 use Rattle.lines.proofs.Sorts.{ends, ends_not}
 use Rattle.lines.proofs.record.read_end.Goals as goal
 
-pub returns-then-is-end : goal.returns-then-is-end
-returns-then-is-end c vs = ends _ c.if-is-end.ensures
+pub returns-then-is_end : goal.returns-then-is_end
+returns-then-is_end c vs = ends _ c.if-is_end.ensures
 
-pub returns-else-is-end : goal.returns-else-is-end
-returns-else-is-end c = ends_not _ c.if-is-end.ensures
+pub returns-else-is_end : goal.returns-else-is_end
+returns-else-is_end c = ends_not _ c.if-is_end.ensures

@@ -11,14 +11,14 @@ returns c =
     let requirement = amount c.args.requirement in
     let call = amount c.args.call in
     let some : 0 < length c.args.out.now = search rules in
-    let whole : length c.put-figure-2.new.out ≡ 36 = search rules in
+    let whole : length c.put_figure-2.new.out ≡ 36 = search rules in
     record {
       value = laid_end 78 (side ∷ currency ∷ requirement ∷ call ∷ []) _ 35 whole
           (laid_more 78 (side ∷ currency ∷ requirement ∷ []) call 21 35 _ _
           (laid_more 78 (side ∷ currency ∷ []) requirement 7 21 _ _
           (laid_more 78 (side ∷ []) currency 3 7 _ _
-          (laid_more 78 [] side 1 3 _ _ (laid_none c.args.out.now 78 some) (field_as _ _ _ side _ 3 c.put-field.ensures.after refl (ap (λ (x : ℕ). x ∷ []) c.letter.ensures.value)))
-          c.put-currency.ensures.after)
-          c.put-figure.ensures.after)
-          c.put-figure-2.ensures.after);
+          (laid_more 78 [] side 1 3 _ _ (laid_none c.args.out.now 78 some) (field_as _ _ _ side _ 3 c.put_field.ensures.after refl (ap (λ (x : ℕ). x ∷ []) c.letter.ensures.value)))
+          c.put_currency.ensures.after)
+          c.put_figure.ensures.after)
+          c.put_figure-2.ensures.after);
     }

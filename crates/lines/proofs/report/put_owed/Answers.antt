@@ -10,12 +10,12 @@ returns c =
     let currency = currency_letters c.args.currency in
     let some : 0 < length c.args.out.now = search rules in
     let twenty : length c.args.name.now.text ≡ 20 = search rules in
-    let whole : length c.put-figure.new.out ≡ 41 = search rules in
+    let whole : length c.put_figure.new.out ≡ 41 = search rules in
     record {
       value = laid_end 75 (name ∷ currency ∷ amount c.args.owed ∷ []) _ 40 whole
           (laid_more 75 (name ∷ currency ∷ []) (amount c.args.owed) 26 40 _ _
           (laid_more 75 (name ∷ []) currency 22 26 _ _
-          (laid_more 75 [] name 1 22 _ _ (laid_none c.args.out.now 75 some) (field_as _ _ name name (2 + length name) 22 c.put-field.ensures.after (omega arith) refl))
-          c.put-currency.ensures.after)
-          c.put-figure.ensures.after);
+          (laid_more 75 [] name 1 22 _ _ (laid_none c.args.out.now 75 some) (field_as _ _ name name (2 + length name) 22 c.put_field.ensures.after (omega arith) refl))
+          c.put_currency.ensures.after)
+          c.put_figure.ensures.after);
     }
