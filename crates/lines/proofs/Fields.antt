@@ -1,5 +1,5 @@
 -- Fields one after another, each cut off the front.
-use Rattle.std.proofs.Common.{◌≡◌, ℕ, ◌+◌, ◌<◌, ◌≤◌, Bool, true, false, List, [], ◌∷◌, ◌++◌, length, get_or, take, drop, Decides, MatchBool, sym, refl, ap, ◌∙◌, add-one, arith}
+use Rattle.std.proofs.Common.{◌≡◌, ℕ, ◌+◌, ◌<◌, ◌≤◌, List, [], ◌∷◌, ◌++◌, length, get_or, take, drop, sym, ap, ◌∙◌, add-one, arith}
 use Rattle.std.proofs.lemmas.List.{length-append, take-append-drop, take_at, drop_at, append_assoc, length-take-le}
 use Rattle.std.proofs.lemmas.Slice.{first_rest}
 use Rattle.std.specs.List.{between}
@@ -59,10 +59,6 @@ module _ {P Q : Field} {s : List ℕ} where
         let y = h.only p.1 v g.1 (sym x.1) in
         (pair_eq x.0 y.0, y.1);
   }
-
-pub decided : (r : Bool) (P : Type 0) → Decides r P → MatchBool r P (P → ⊥)
-decided true P d = d.0 refl
-decided false P d = λ p. let e : false ≡ true = d.1 p in let z : ◌≡◌ {A = ℕ} 0 1 = cc in omega arith
 
 -- a text is its first byte and the rest
 pub opened : (line : List ℕ) (l : ℕ) → (length line ≡ 0 → ⊥) → get_or line 0 0 ≡ l → line ≡ l ∷ between 1 (length line) line
