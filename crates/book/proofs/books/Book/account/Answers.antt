@@ -8,13 +8,13 @@ use Rattle.book.proofs.Read.{row_here, row_past}
 use Rattle.book.proofs.Slots.{slot_below}
 use Rattle.book.proofs.books.Book.account.Goals as goal
 
-pub returns-in-err-row : goal.returns-in-err-row
-returns-in-err-row c =
+pub returns-in_err-row : goal.returns-in_err-row
+returns-in_err-row c =
     let s = c.args.self.now in
     let rows = take s.accounts.len s.accounts.rows.now in
-    let none = c.from-residual.ensures in
+    let none = c.from_residual.ensures in
     record {
-      value = none ∙ sym (row_past c.args.k rows c.loop-i.i c.in-err-row.ensures.value) ∙ c.loop-i.invariant;
+      value = none ∙ sym (row_past c.args.k rows c.loop-i.i c.in_err-row.ensures.value) ∙ c.loop-i.invariant;
       bound = λ a e. let z : ◌≡◌ {A = ℕ} 0 1 = cc in absurd (omega arith);
     }
 
@@ -23,8 +23,8 @@ returns-then-row-k c =
     let s = c.args.self.now in
     let n = s.accounts.len in
     let rows = take n s.accounts.rows.now in
-    let row = c.in-ok-row.row in
-    let here = c.in-ok-row.ensures.value in
+    let row = c.in_ok-row.row in
+    let here = c.in_ok-row.ensures.value in
     let is : eqb row.slot c.args.k ≡ true = eq-eqb row.slot c.args.k c.if-row-k.true in
     let short = length-take-le n s.accounts.rows.now s.accounts_within in
     record {
@@ -36,10 +36,10 @@ pub loop-i-preserved : goal.loop-i-preserved
 loop-i-preserved c =
     let s = c.args.self.now in
     let rows = take s.accounts.len s.accounts.rows.now in
-    let row = c.in-ok-row.row in
+    let row = c.in_ok-row.row in
     let isnt = ne_eqb row.slot c.args.k c.if-row-k.false in
     ap (λ (i : ℕ). numbered c.args.k (drop i rows)) (add-one c.loop-i.i)
-    ∙ sym (row_here c.args.k rows c.loop-i.i row c.in-ok-row.ensures.value ∙ cond-false (eqb row.slot c.args.k) (Some row) _ isnt) ∙ c.loop-i.invariant
+    ∙ sym (row_here c.args.k rows c.loop-i.i row c.in_ok-row.ensures.value ∙ cond-false (eqb row.slot c.args.k) (Some row) _ isnt) ∙ c.loop-i.invariant
 
 pub returns : goal.returns
 returns c =

@@ -3,8 +3,8 @@ use Rattle.std.proofs.Common.{◌+◌, ◌≤◌, get_or}
 use Rattle.book.proofs.Cleared.{bounded_set, room_set}
 use Rattle.book.proofs.books.Book.add_at.Goals as goal
 
-pub invariant-of-self : goal.invariant-of-self
-invariant-of-self c =
+pub invariant_of-self : goal.invariant_of-self
+invariant_of-self c =
     let s = c.args.self.now in
     let xs = s.counts.slots.now in
     let p = c.args.place in

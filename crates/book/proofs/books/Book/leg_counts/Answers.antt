@@ -8,12 +8,12 @@ pub returns : goal.returns
 returns c =
     let b = c.args.self.now in
     let s = view b in
-    let q = c.place-of.result in
-    let m = c.series-count.result in
+    let q = c.place_of.result in
+    let m = c.series_count.result in
     let lt : c.args.slot < length s.accounts = omega (arith, length-take-le b.accounts.len b.accounts.rows.now b.accounts_within, c.len.ensures.value) in
-    let end : q + m ≤ b.accounts.len * 256 = omega (arith, c.place-of.ensures.value, leg_below c.args.leg, c.len.ensures.value, c.series-count.ensures.bound) in
+    let end : q + m ≤ b.accounts.len * 256 = omega (arith, c.place_of.ensures.value, leg_below c.args.leg, c.len.ensures.value, c.series_count.ensures.bound) in
     record {
-      value = c.part-2.ensures.value ∙ counts_open s c.args.slot c.args.leg q m lt c.place-of.ensures.value c.series-count.ensures.value;
-      all = λ _. ap length c.part-2.ensures.value ∙ part_length s.counts q m (omega (arith, b.room)) ∙ c.series-count.ensures.value;
+      value = c.part-2.ensures.value ∙ counts_open s c.args.slot c.args.leg q m lt c.place_of.ensures.value c.series_count.ensures.value;
+      all = λ _. ap length c.part-2.ensures.value ∙ part_length s.counts q m (omega (arith, b.room)) ∙ c.series_count.ensures.value;
       bound = λ j. subst (λ (xs : List ℕ). get_or xs j 0 ≤ 100000) (sym c.part-2.ensures.value) (part_bounded s.counts q m (b.accounts.len * 256) end b.bounded j);
     }

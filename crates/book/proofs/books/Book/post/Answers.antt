@@ -5,16 +5,16 @@ use Rattle.book.specs.View.{view}
 use Rattle.book.proofs.Posted.{at, counted, spot_passed, post_refused, post_over, post_passed, post_done}
 use Rattle.book.proofs.books.Book.post.Goals as goal
 
-pub returns-in-err-spot : goal.returns-in-err-spot
-returns-in-err-spot c =
+pub returns-in_err-spot : goal.returns-in_err-spot
+returns-in_err-spot c =
     let s = view c.args.self.now in
     let t = c.args.name.now in
     let k = c.args.key in
     let n = c.args.contracts in
-    let p = err_from_is_err_and c.from-residual.result c.from-residual.ensures.1 in
+    let p = err_from_is_err_and c.from_residual.result c.from_residual.ensures.1 in
     record {
       step = record {
-        fault = rw (p.1, p.2) (post_refused s t k c.args.leg n _ (spot_passed s t k n _ c.ranges.contracts c.in-err-spot.ensures.value));
+        fault = rw (p.1, p.2) (post_refused s t k c.args.leg n _ (spot_passed s t k n _ c.ranges.contracts c.in_err-spot.ensures.value));
         state = rw p.1;
       };
     }
@@ -25,11 +25,11 @@ returns-then-count-spot-gt-CEILING c =
     let t = c.args.name.now in
     let k = c.args.key in
     let n = c.args.contracts in
-    let p = c.in-ok-spot.spot in
-    let h = spot_passed s t k n (Ok p) c.ranges.contracts c.in-ok-spot.ensures.value in
-    let was = counted s c.args.leg p c.count-at-count.result c.place-of-place.result c.count-at-count.ensures.value c.place-of-place.ensures.value in
+    let p = c.in_ok-spot.spot in
+    let h = spot_passed s t k n (Ok p) c.ranges.contracts c.in_ok-spot.ensures.value in
+    let was = counted s c.args.leg p c.count_at-count.result c.place_of-place.result c.count_at-count.ensures.value c.place_of-place.ensures.value in
     let over : 100000 < at s c.args.leg p + p.contracts = omega arith in
-    record { step = record { fault = post_over s t k c.args.leg n p h c.at-both.result c.at-both.ensures.value over; state = refl } }
+    record { step = record { fault = post_over s t k c.args.leg n p h c.at_both.result c.at_both.ensures.value over; state = refl } }
 
 pub returns : goal.returns
 returns c =
@@ -37,13 +37,13 @@ returns c =
     let t = c.args.name.now in
     let k = c.args.key in
     let n = c.args.contracts in
-    let p = c.in-ok-spot.spot in
-    let h = spot_passed s t k n (Ok p) c.ranges.contracts c.in-ok-spot.ensures.value in
-    let was = counted s c.args.leg p c.count-at-count.result c.place-of-place.result c.count-at-count.ensures.value c.place-of-place.ensures.value in
+    let p = c.in_ok-spot.spot in
+    let h = spot_passed s t k n (Ok p) c.ranges.contracts c.in_ok-spot.ensures.value in
+    let was = counted s c.args.leg p c.count_at-count.result c.place_of-place.result c.count_at-count.ensures.value c.place_of-place.ensures.value in
     let space : at s c.args.leg p + p.contracts ≤ 100000 = omega arith in
     record {
       step = record {
         fault = post_passed s t k c.args.leg n p h space;
-        state = c.add-at.ensures.after ∙ post_done s t k c.args.leg n p h c.place-of-place.result c.place-of-place.ensures.value;
+        state = c.add_at.ensures.after ∙ post_done s t k c.args.leg n p h c.place_of-place.result c.place_of-place.ensures.value;
       };
     }

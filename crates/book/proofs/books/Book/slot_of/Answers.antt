@@ -9,8 +9,8 @@ returns c =
     let s = c.args.self.now in
     let n = s.accounts.len in
     let rows = take n s.accounts.rows.now in
-    let row = c.in-ok-row.ensures.value in
+    let row = c.in_ok-row.ensures.value in
     record {
-      value = ap number_of row ∙ ap (λ (o : Option ℕ). number_of (row_at rows o)) c.in-ok-place.ensures.answer;
-      bound = λ k e. let same : c.in-ok-row.row.slot ≡ k = cc in omega (arith, slot_below n rows c.in-ok-place.place c.in-ok-row.row s.accounts_numbered row);
+      value = ap number_of row ∙ ap (λ (o : Option ℕ). number_of (row_at rows o)) c.in_ok-place.ensures.answer;
+      bound = λ k e. let same : c.in_ok-row.row.slot ≡ k = cc in omega (arith, slot_below n rows c.in_ok-place.place c.in_ok-row.row s.accounts_numbered row);
     }
