@@ -18,22 +18,15 @@ invariant_of-self c =
     let old = s.counts.slots.now in
     let new = c.clear_slot.new.self.slots.now in
     let next : b ≡ a + 1 = omega (arith, e.count, c.len-slot.ensures.value) in
-    let fits : a * 256 + 256 ≤ length old = omega (arith, c.len.ensures.value) in (
-      e.most s.few_accounts,
-      (
-        e.within s.accounts_within,
-        (
-          e.sorted s.accounts_sorted,
-          (
-            numbered_more e (omega (arith, e.count)) c.len-slot.ensures.value s.accounts_numbered,
-            (
-              room_open a b old new c.clear_slot.ensures.after next fits,
-              (bounded_open a b old new c.clear_slot.ensures.after next fits (λ k l. s.bounded k (omega (arith, c.len-slot.ensures.value))), tt),
-            ),
-          ),
-        ),
-      ),
-    )
+    let fits : a * 256 + 256 ≤ length old = omega (arith, c.len.ensures.value) in
+    record {
+      few_accounts = e.most s.few_accounts;
+      accounts_within = e.within s.accounts_within;
+      accounts_sorted = e.sorted s.accounts_sorted;
+      accounts_numbered = numbered_more e (omega (arith, e.count)) c.len-slot.ensures.value s.accounts_numbered;
+      room = room_open a b old new c.clear_slot.ensures.after next fits;
+      bounded = bounded_open a b old new c.clear_slot.ensures.after next fits (λ k l. s.bounded k (omega (arith, c.len-slot.ensures.value)));
+    }
 
 pub returns-in-Err : goal.returns-in-Err
 returns-in-Err c =

@@ -9,19 +9,12 @@ invariant_of-self c =
     let xs = s.counts.slots.now in
     let p = c.args.place in
     let v = get_or xs p 0 - c.args.contracts in
-    let fits : v ≤ 100000 = omega (arith, s.bounded p c.requires.place) in (
-      s.few_accounts,
-      (
-        s.accounts_within,
-        (
-          s.accounts_sorted,
-          (
-            s.accounts_numbered,
-            (
-              room_set xs p v s.accounts.len s.room,
-              (bounded_set xs p v s.accounts.len fits s.bounded, tt),
-            ),
-          ),
-        ),
-      ),
-    )
+    let fits : v ≤ 100000 = omega (arith, s.bounded p c.requires.place) in
+    record {
+      few_accounts = s.few_accounts;
+      accounts_within = s.accounts_within;
+      accounts_sorted = s.accounts_sorted;
+      accounts_numbered = s.accounts_numbered;
+      room = room_set xs p v s.accounts.len s.room;
+      bounded = bounded_set xs p v s.accounts.len fits s.bounded;
+    }
