@@ -9,8 +9,8 @@ use Rattle.charge.specs.Shorts.{shorts_next, kind_same, kind_apart}
 use Rattle.charge.proofs.minimum.shorts_of.Goals as goal
 use Rattle.charge.proofs.minimum.shorts_of.Goals.{then-count-lt0+then-eq, else-count-lt0, else-count-lt0-via-then-count-lt0+else-eq, else-count-lt0-via-else-count-lt0}
 
-pub overflow-sub-sum : goal.overflow-sub-sum
-overflow-sub-sum c =
+pub overflow_sub-sum : goal.overflow_sub-sum
+overflow_sub-sum c =
     let p = (fits_parts (length c.args.class.now.series.now) c.args.position.now c.requires.fit).1 c.loop-i.i in
     omega (arith, ints, c.args.class.now.inside.2)
 

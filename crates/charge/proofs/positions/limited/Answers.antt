@@ -5,9 +5,9 @@ use Rattle.std.proofs.lemmas.Bool.Decides.{nat_tests}
 use Rattle.charge.specs.Answers.{limited}
 use Rattle.charge.proofs.positions.limited.Goals as goal
 
-pub returns-then-figure-gt-FIGURE-LIMIT : goal.returns-then-figure-gt-FIGURE-LIMIT
+pub returns-then-figure-gt-FIGURE_LIMIT : goal.returns-then-figure-gt-FIGURE_LIMIT
 unfolding limited
-returns-then-figure-gt-FIGURE-LIMIT c = grind (arith, ints, nat_tests)
+returns-then-figure-gt-FIGURE_LIMIT c = grind (arith, ints, nat_tests)
 
 pub returns : goal.returns
 unfolding limited

@@ -12,11 +12,11 @@ use Rattle.charge.proofs.scanning.loss_of.Goals as goal
 at_turn : (c : goal.After-sum-in-loop-i·1) → Product 10000000 (get_or c.args.position.now c.loop-i.i (pos 0)) (scenario c.args.k (get_or c.args.class.now.series.now c.loop-i.i no_series))
 at_turn c = turn (scenario c.args.k) 10000000 c.args.class.now.series.now c.args.position.now c.loop-i.i (lit≤ tt) c.requires.fit (c.args.class.now.inside.4 c.args.k) c.loop-i-test.true
 
-pub overflow-mul-sum : goal.overflow-mul-sum
-overflow-mul-sum c = let t = at_turn c in let f = t.left in let g = t.right in let h = t.fits in simp to_z-of_z h
+pub overflow_mul-sum : goal.overflow_mul-sum
+overflow_mul-sum c = let t = at_turn c in let f = t.left in let g = t.right in let h = t.fits in simp to_z-of_z h
 
-pub overflow-add-sum : goal.overflow-add-sum
-overflow-add-sum c = let t = at_turn c in omega (arith, ints, c.args.class.now.inside.2)
+pub overflow_add-sum : goal.overflow_add-sum
+overflow_add-sum c = let t = at_turn c in omega (arith, ints, c.args.class.now.inside.2)
 
 pub loop-i-preserved : goal.loop-i-preserved
 loop-i-preserved c =

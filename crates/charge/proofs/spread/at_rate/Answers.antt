@@ -13,8 +13,8 @@ product_of c =
     let r = rate_is c in
     rate_product _ _ c.in-Some.rate 5242880000000 100000 e (omega (arith, ints, c.requires.most)) (omega (arith, c.args.class.now.inside.0)) (lit< tt) (lit< tt) (lit< tt)
 
-pub overflow-mul-result : goal.overflow-mul-result
-overflow-mul-result c = (product_of c).ranges
+pub overflow_mul-result : goal.overflow_mul-result
+overflow_mul-result c = (product_of c).ranges
 
 pub returns-in-Some : goal.returns-in-Some
 returns-in-Some c = record { value = (product_of c).is ∙ ap (λ r. pos (up c.args.figure * r)) (sym (rate_is c)) }

@@ -11,13 +11,13 @@ use Rattle.charge.specs.Months.{month_yes, month_no}
 use Rattle.charge.proofs.spread.month_delta_of.Goals as goal
 use Rattle.charge.proofs.spread.month_delta_of.Goals.{then-class-i, else-class-i}
 
-pub overflow-mul-sum : goal.overflow-mul-sum
-overflow-mul-sum c =
+pub overflow_mul-sum : goal.overflow_mul-sum
+overflow_mul-sum c =
     let t = turn delta_of 100 c.args.class.now.series.now c.args.position.now c.loop-i.i (lit≤ tt) c.requires.fit c.args.class.now.inside.3 c.loop-i-test.true in
     let f = t.left in let g = t.right in let h = t.fits in simp to_z-of_z h
 
-pub overflow-add-sum : goal.overflow-add-sum
-overflow-add-sum c =
+pub overflow_add-sum : goal.overflow_add-sum
+overflow_add-sum c =
     let t = turn delta_of 100 c.args.class.now.series.now c.args.position.now c.loop-i.i (lit≤ tt) c.requires.fit c.args.class.now.inside.3 c.loop-i-test.true in
     omega (arith, ints, c.args.class.now.inside.2)
 

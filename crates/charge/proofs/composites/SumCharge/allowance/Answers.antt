@@ -8,37 +8,37 @@ use Rattle.charge.proofs.Parts.{figure, first_refuses, second_refuses, both_answ
 use Rattle.charge.proofs.composites.SumCharge.allowance.Goals as goal
 
 -- the first part's fault goes up whole
-pub returns-in-err-first-allowance : goal.returns-in-err-first-allowance
-returns-in-err-first-allowance g c =
+pub returns-in_err-first_allowance : goal.returns-in_err-first_allowance
+returns-in_err-first_allowance g c =
     let a = (g.A.Charge.meaning c.args.self.now.0).allowed (plain c.args.class.now) c.args.one.now c.args.other.now in
     let b = (g.B.Charge.meaning c.args.self.now.1).allowed (plain c.args.class.now) c.args.one.now c.args.other.now in
-    let p = err_from_is_err_and c.from-residual.result c.from-residual.ensures.1 in
-    record { answer = rw (p.1, p.2) (first_refuses _ a b (a + b) _ _ _ _ (omega arith) (omega arith) _ c.in-err-first-allowance.ensures.answer) }
+    let p = err_from_is_err_and c.from_residual.result c.from_residual.ensures.1 in
+    record { answer = rw (p.1, p.2) (first_refuses _ a b (a + b) _ _ _ _ (omega arith) (omega arith) _ c.in_err-first_allowance.ensures.answer) }
 
 -- so does the second part's, where the first has a figure
-pub returns-in-err-second-allowance : goal.returns-in-err-second-allowance
-returns-in-err-second-allowance g c =
+pub returns-in_err-second_allowance : goal.returns-in_err-second_allowance
+returns-in_err-second_allowance g c =
     let a = (g.A.Charge.meaning c.args.self.now.0).allowed (plain c.args.class.now) c.args.one.now c.args.other.now in
     let b = (g.B.Charge.meaning c.args.self.now.1).allowed (plain c.args.class.now) c.args.one.now c.args.other.now in
-    let p = err_from_is_err_and c.from-residual-in-err-second-allowance.result c.from-residual-in-err-second-allowance.ensures.1 in
-    record { answer = rw (p.1, p.2) (second_refuses _ a b (a + b) _ _ _ _ (omega arith) (omega arith) _ _ _ c.in-ok-first-allowance.ensures.answer c.in-err-second-allowance.ensures.answer) }
+    let p = err_from_is_err_and c.from_residual-in_err-second_allowance.result c.from_residual-in_err-second_allowance.ensures.1 in
+    record { answer = rw (p.1, p.2) (second_refuses _ a b (a + b) _ _ _ _ (omega arith) (omega arith) _ _ _ c.in_ok-first_allowance.ensures.answer c.in_err-second_allowance.ensures.answer) }
 
-pub overflow-add-first-allowance : goal.overflow-add-first-allowance
-overflow-add-first-allowance g c =
-    let first = figure _ _ _ _ _ c.in-ok-first-allowance.ensures.answer in
-    let second = figure _ _ _ _ _ c.in-ok-second-allowance.ensures.answer in
+pub overflow_add-first_allowance : goal.overflow_add-first_allowance
+overflow_add-first_allowance g c =
+    let first = figure _ _ _ _ _ c.in_ok-first_allowance.ensures.answer in
+    let second = figure _ _ _ _ _ c.in_ok-second_allowance.ensures.answer in
     omega (arith, ints)
 
 pub limited-requires : goal.limited-requires
 limited-requires g c =
-    let first = figure _ _ _ _ _ c.in-ok-first-allowance.ensures.answer in
-    let second = figure _ _ _ _ _ c.in-ok-second-allowance.ensures.answer in
+    let first = figure _ _ _ _ _ c.in_ok-first_allowance.ensures.answer in
+    let second = figure _ _ _ _ _ c.in_ok-second_allowance.ensures.answer in
     omega (arith, ints)
 
 pub returns : goal.returns
 returns g c =
     let a = (g.A.Charge.meaning c.args.self.now.0).allowed (plain c.args.class.now) c.args.one.now c.args.other.now in
     let b = (g.B.Charge.meaning c.args.self.now.1).allowed (plain c.args.class.now) c.args.one.now c.args.other.now in
-    let first = figure _ _ _ _ _ c.in-ok-first-allowance.ensures.answer in
-    let second = figure _ _ _ _ _ c.in-ok-second-allowance.ensures.answer in
-    record { answer = both_answer _ a b (a + b) _ _ _ _ (omega arith) (omega arith) _ _ _ _ c.in-ok-first-allowance.ensures.answer c.in-ok-second-allowance.ensures.answer (c.limited.ensures.answer ∙ ap (λ n. limited n Own) (omega (arith, ints))) }
+    let first = figure _ _ _ _ _ c.in_ok-first_allowance.ensures.answer in
+    let second = figure _ _ _ _ _ c.in_ok-second_allowance.ensures.answer in
+    record { answer = both_answer _ a b (a + b) _ _ _ _ (omega arith) (omega arith) _ _ _ _ c.in_ok-first_allowance.ensures.answer c.in_ok-second_allowance.ensures.answer (c.limited.ensures.answer ∙ ap (λ n. limited n Own) (omega (arith, ints))) }

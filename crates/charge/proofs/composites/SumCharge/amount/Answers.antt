@@ -8,37 +8,37 @@ use Rattle.charge.proofs.Parts.{figure, first_refuses, second_refuses, both_answ
 use Rattle.charge.proofs.composites.SumCharge.amount.Goals as goal
 
 -- the first part's fault goes up whole
-pub returns-in-err-first : goal.returns-in-err-first
-returns-in-err-first g c =
+pub returns-in_err-first : goal.returns-in_err-first
+returns-in_err-first g c =
     let a = (g.A.Charge.meaning c.args.self.now.0).charged (plain c.args.class.now) c.args.position.now in
     let b = (g.B.Charge.meaning c.args.self.now.1).charged (plain c.args.class.now) c.args.position.now in
-    let p = err_from_is_err_and c.from-residual.result c.from-residual.ensures.1 in
-    record { answer = rw (p.1, p.2) (first_refuses _ a b (a + b) _ _ _ _ (omega arith) (omega arith) _ c.in-err-first.ensures.answer) }
+    let p = err_from_is_err_and c.from_residual.result c.from_residual.ensures.1 in
+    record { answer = rw (p.1, p.2) (first_refuses _ a b (a + b) _ _ _ _ (omega arith) (omega arith) _ c.in_err-first.ensures.answer) }
 
 -- so does the second part's, where the first has a figure
-pub returns-in-err-second : goal.returns-in-err-second
-returns-in-err-second g c =
+pub returns-in_err-second : goal.returns-in_err-second
+returns-in_err-second g c =
     let a = (g.A.Charge.meaning c.args.self.now.0).charged (plain c.args.class.now) c.args.position.now in
     let b = (g.B.Charge.meaning c.args.self.now.1).charged (plain c.args.class.now) c.args.position.now in
-    let p = err_from_is_err_and c.from-residual-in-err-second.result c.from-residual-in-err-second.ensures.1 in
-    record { answer = rw (p.1, p.2) (second_refuses _ a b (a + b) _ _ _ _ (omega arith) (omega arith) _ _ _ c.in-ok-first.ensures.answer c.in-err-second.ensures.answer) }
+    let p = err_from_is_err_and c.from_residual-in_err-second.result c.from_residual-in_err-second.ensures.1 in
+    record { answer = rw (p.1, p.2) (second_refuses _ a b (a + b) _ _ _ _ (omega arith) (omega arith) _ _ _ c.in_ok-first.ensures.answer c.in_err-second.ensures.answer) }
 
-pub overflow-add-first : goal.overflow-add-first
-overflow-add-first g c =
-    let first = figure _ _ _ _ _ c.in-ok-first.ensures.answer in
-    let second = figure _ _ _ _ _ c.in-ok-second.ensures.answer in
+pub overflow_add-first : goal.overflow_add-first
+overflow_add-first g c =
+    let first = figure _ _ _ _ _ c.in_ok-first.ensures.answer in
+    let second = figure _ _ _ _ _ c.in_ok-second.ensures.answer in
     omega (arith, ints)
 
 pub limited-requires : goal.limited-requires
 limited-requires g c =
-    let first = figure _ _ _ _ _ c.in-ok-first.ensures.answer in
-    let second = figure _ _ _ _ _ c.in-ok-second.ensures.answer in
+    let first = figure _ _ _ _ _ c.in_ok-first.ensures.answer in
+    let second = figure _ _ _ _ _ c.in_ok-second.ensures.answer in
     omega (arith, ints)
 
 pub returns : goal.returns
 returns g c =
     let a = (g.A.Charge.meaning c.args.self.now.0).charged (plain c.args.class.now) c.args.position.now in
     let b = (g.B.Charge.meaning c.args.self.now.1).charged (plain c.args.class.now) c.args.position.now in
-    let first = figure _ _ _ _ _ c.in-ok-first.ensures.answer in
-    let second = figure _ _ _ _ _ c.in-ok-second.ensures.answer in
-    record { answer = both_answer _ a b (a + b) _ _ _ _ (omega arith) (omega arith) _ _ _ _ c.in-ok-first.ensures.answer c.in-ok-second.ensures.answer (c.limited.ensures.answer ∙ ap (λ n. limited n Own) (omega (arith, ints))) }
+    let first = figure _ _ _ _ _ c.in_ok-first.ensures.answer in
+    let second = figure _ _ _ _ _ c.in_ok-second.ensures.answer in
+    record { answer = both_answer _ a b (a + b) _ _ _ _ (omega arith) (omega arith) _ _ _ _ c.in_ok-first.ensures.answer c.in_ok-second.ensures.answer (c.limited.ensures.answer ∙ ap (λ n. limited n Own) (omega (arith, ints))) }

@@ -18,8 +18,8 @@ most rows p = max (shorts Call rows p) (shorts Put rows p)
 product_of : (x : ℤ) (n rate : ℕ) → x ≡ pos n → n ≤ 409600000 → rate ≤ 1000000 → Rated x n rate
 product_of x n rate e s r = rate_product x n rate 409600000 1000000 e s r (lit< tt) (lit< tt) (lit< tt)
 
-pub overflow-mul-max : goal.overflow-mul-max
-overflow-mul-max c =
+pub overflow_mul-max : goal.overflow_mul-max
+overflow_mul-max c =
     let e : c.max.result ≡ pos (most c.args.class.now.series.now c.args.position.now) = omega (arith, ints, clamps) in
     (product_of _ _ _ e (omega (arith, ints)) c.args.class.now.inside.1).fits
 
