@@ -1,5 +1,5 @@
 -- Each charge is lawful: the three of their own by their figures, a composite by its parts. And what holds of each by itself.
-use Rattle.std.specs.Prelude.{◌≡◌, ◌*◌, max}
+use Rattle.std.specs.Prelude.{max}
 use Rattle.std.proofs.Common.{inl, inr, ⊎_elim, arith, zero-mul}
 use Rattle.std.proofs.lemmas.Bool.{cases_lt}
 use Rattle.terms.specs.declared.words.Kind.TheVariants.{Call, Put}

@@ -1,10 +1,10 @@
 //! Charges made of two, their sum and the greater of them, and the charge of the PRiME method.
 ghost use Rattle.std.specs.Prelude.{◌≡◌, pos, IfOk};
+ghost use Rattle.charge.specs.Lawful.{summed_lawful, greater_lawful};
 ghost use Rattle.charge.specs.Meanings.{Lawful, summed, greater, prime_meaning};
 ghost use Rattle.charge.specs.Prime.{prime_amount};
 ghost use Rattle.charge.specs.Replies.{amount_answer, allowance_answer};
 ghost use Rattle.sheet.specs.Plain.{plain};
-ghost use Rattle.std.proofs.Common.{rules};
 
 use crate::charges::Charge;
 use crate::minimum::Minimum;
@@ -22,7 +22,7 @@ pub struct Sum<A, B>(pub A, pub B);
 impl<A: Charge, B: Charge> Charge for Sum<A, B> {
     ghost meaning = { λ s. summed (A.Charge.meaning s.0) (B.Charge.meaning s.1) };
 
-    ghost lawful = { Prim.search rules };
+    ghost lawful = { λ s. summed_lawful (A.Charge.meaning s.0) (B.Charge.meaning s.1) (A.Charge.lawful s.0) (B.Charge.lawful s.1) };
 
     fn amount(&self, class: &Class, position: &[i64]) -> Result<i64, Fault> {
         let first = self.0.amount(class, position)?;
@@ -44,7 +44,7 @@ pub struct Greater<A, B>(pub A, pub B);
 impl<A: Charge, B: Charge> Charge for Greater<A, B> {
     ghost meaning = { λ s. greater (A.Charge.meaning s.0) (B.Charge.meaning s.1) };
 
-    ghost lawful = { Prim.search rules };
+    ghost lawful = { λ s. greater_lawful (A.Charge.meaning s.0) (B.Charge.meaning s.1) (A.Charge.lawful s.0) (B.Charge.lawful s.1) };
 
     fn amount(&self, class: &Class, position: &[i64]) -> Result<i64, Fault> {
         let left = self.0.amount(class, position)?;

@@ -1,4 +1,6 @@
-use Rattle.std.proofs.Common.{◌≡◌, length, get_or, drop, pos, ⊎_elim, arith}
+use Rattle.std.proofs.Common.{◌≡◌, length, get_or, drop, pos, sym, ⊎_elim, arith}
+use denote.Enum.Bare.{same_true, same_false}
+use Rattle.terms.specs.contracts.words.Kind.{the_type}
 use Rattle.std.proofs.lemmas.Bool.{cond-true, cond-false}
 use borrow.Author.Differences.{ints, down}
 use Rattle.std.proofs.lemmas.List.{at_drop_all}
@@ -25,11 +27,11 @@ loop-i-preserved c =
     let part = one_part count in
     elim c.if-count-lt0.branch [
       | then-count-lt0+then-eq w ↦
-          let y = cond-true (same_kind k c.args.kind) (down count) 0 (kind_same k c.args.kind w.if-eq.ensures) in
+          let y = cond-true (same_kind k c.args.kind) (down count) 0 (kind_same k c.args.kind (same_true the_type tt k c.args.kind (sym w.if-eq.ensures))) in
           ⊎_elim (λ e. (omega (arith, ints, c.args.class.now.inside.2), omega (arith, ints, c.args.class.now.inside.2))) (λ e. (omega (arith, ints), omega (arith, ints))) part
       | else-count-lt0 w ↦ elim w.else-count-lt0.branch [
         | else-count-lt0-via-then-count-lt0+else-eq v ↦
-            let y = cond-false (same_kind k c.args.kind) (down count) 0 (kind_apart k c.args.kind v.if-eq.ensures) in
+            let y = cond-false (same_kind k c.args.kind) (down count) 0 (kind_apart k c.args.kind (same_false the_type k c.args.kind (sym v.if-eq.ensures))) in
             (omega (arith, ints), omega (arith, ints))
         | else-count-lt0-via-else-count-lt0 v ↦
             let none : down count ≡ 0 = ⊎_elim (λ e. omega (arith, ints)) (λ e. omega (arith, ints)) part in

@@ -9,7 +9,7 @@ use Rattle.charge.specs.Dots.{no_series, turn, fits_parts, Product, dot_next}
 use Rattle.charge.proofs.scanning.loss_of.Goals as goal
 
 -- the product of this turn
-at_turn : (c : goal.After-sum-in-loop-i·1) → Product 10000000 (get_or c.args.position.now c.loop-i.i (pos 0)) (scenario c.args.k (get_or c.args.class.now.series.now c.loop-i.i no_series))
+at_turn : (c : goal.After-sum-in-loop-i-1) → Product 10000000 (get_or c.args.position.now c.loop-i.i (pos 0)) (scenario c.args.k (get_or c.args.class.now.series.now c.loop-i.i no_series))
 at_turn c = turn (scenario c.args.k) 10000000 c.args.class.now.series.now c.args.position.now c.loop-i.i (lit≤ tt) c.requires.fit (c.args.class.now.inside.4 c.args.k) c.loop-i-test.true
 
 pub overflow_mul-sum : goal.overflow_mul-sum

@@ -6,7 +6,7 @@ use Rattle.charge.specs.Sizes.{one_part}
 use Rattle.charge.specs.Dots.{no_series}
 use Rattle.charge.specs.Months.{sides_skip, sides_more}
 use Rattle.charge.proofs.spread.sides.Goals as goal
-use Rattle.charge.proofs.spread.sides.Goals.{then-not-seen-before+then-delta-gt0, then-not-seen-before+else-delta-gt0, else-not-seen_before}
+use Rattle.charge.proofs.spread.sides.Goals.{then-not-seen_before+then-delta-gt0, then-not-seen_before+else-delta-gt0, else-not-seen_before}
 
 pub loop-i-init : goal.loop-i-init
 unfolding long short
@@ -21,10 +21,10 @@ loop-i-preserved c =
     let at = get_or-map month_of rows i no_series 0 c.loop-i-test.true in
     let part = one_part (month_delta m rows p) in
     elim c.if-not-seen_before.branch [
-      | then-not-seen-before+then-delta-gt0 w ↦
+      | then-not-seen_before+then-delta-gt0 w ↦
           let n = sides_more rows p i m at (sym c.seen_before.ensures.value ∙ w.if-not-seen_before.true) in
           ⊎_elim (λ e. (omega (arith, ints), omega (arith, ints), omega (arith, ints), omega (arith, ints))) (λ e. (omega (arith, ints), omega (arith, ints), omega (arith, ints), omega (arith, ints))) part
-      | then-not-seen-before+else-delta-gt0 w ↦
+      | then-not-seen_before+else-delta-gt0 w ↦
           let n = sides_more rows p i m at (sym c.seen_before.ensures.value ∙ w.if-not-seen_before.true) in
           ⊎_elim (λ e. (omega (arith, ints), omega (arith, ints), omega (arith, ints), omega (arith, ints))) (λ e. (omega (arith, ints), omega (arith, ints), omega (arith, ints), omega (arith, ints))) part
       | else-not-seen_before w ↦
