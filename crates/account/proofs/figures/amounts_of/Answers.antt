@@ -5,8 +5,8 @@ use Rattle.account.proofs.Marks.{lent}
 use Rattle.account.proofs.Charges.{amount_made, one_amount}
 use Rattle.account.proofs.figures.amounts_of.Goals as goal
 
-pub gross-amounts-requires : goal.gross-amounts-requires
-gross-amounts-requires g c = record { clear = lent 128 (length c.args.position.now) c.requires.few; few = c.requires.few }
+pub gross_amounts-requires : goal.gross_amounts-requires
+gross_amounts-requires g c = record { clear = lent 128 (length c.args.position.now) c.requires.few; few = c.requires.few }
 
 pub returns-in-Net : goal.returns-in-Net
 returns-in-Net g c =

@@ -3,8 +3,8 @@ use Rattle.sheet.specs.Given.{Terms}
 use Rattle.account.proofs.Parts.{length_part, small_part}
 use Rattle.account.proofs.figures.figure_at.Goals as goal
 
-pub class-figure-requires : goal.class-figure-requires
-class-figure-requires g c =
+pub class_figure-requires : goal.class_figure-requires
+class_figure-requires g c =
     let a = c.span-span.result.from in
     let e = c.span-span.result.to in
     let s = c.span-span.ensures.value in

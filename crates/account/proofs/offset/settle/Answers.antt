@@ -7,23 +7,23 @@ use Rattle.account.proofs.Offsets.{owed_step, requirement_step}
 use Rattle.account.proofs.Written.{written}
 use Rattle.account.proofs.offset.settle.Goals as goal
 
-debit_is : (c : goal.After-way-told-in-loop-i·1) → c.debit-of-debt.result ≡ debit (get_or c.args.sums.now c.loop-i.i (pos 0))
-debit_is c = let f : SFits w64 (get_or c.args.sums.now c.loop-i.i (pos 0)) = search rules in c.debit-of-debt.ensures.value ∙ ap debit (to_z-of_z w64 _ f)
+debit_is : (c : goal.After-way_told-in-loop-i-1) → c.debit_of-debt.result ≡ debit (get_or c.args.sums.now c.loop-i.i (pos 0))
+debit_is c = let f : SFits w64 (get_or c.args.sums.now c.loop-i.i (pos 0)) = search rules in c.debit_of-debt.ensures.value ∙ ap debit (to_z-of_z w64 _ f)
 
-small : (c : goal.After-way-told-in-loop-i·1) → (c.debit-of-debt.result - c.lost-less.result) * get_or c.args.rates.now c.loop-i.i 0 ≤ 20000000000000000
+small : (c : goal.After-way_told-in-loop-i-1) → (c.debit_of-debt.result - c.lost-less.result) * get_or c.args.rates.now c.loop-i.i 0 ≤ 20000000000000000
 small c = mul-le _ _ 100000000000 200000 (omega (arith, debit_is c, c.requires.limits.debits c.loop-i.i)) (c.requires.limits.low c.loop-i.i)
 
-pub overflow-mul-left : goal.overflow-mul-left
-overflow-mul-left c = omega (arith, c.lost-less.ensures.covered)
+pub overflow_mul-left : goal.overflow_mul-left
+overflow_mul-left c = omega (arith, c.lost-less.ensures.covered)
 
-pub overflow-sub-left : goal.overflow-sub-left
-overflow-sub-left c = c.lost-less.ensures.covered
+pub overflow_sub-left : goal.overflow_sub-left
+overflow_sub-left c = c.lost-less.ensures.covered
 
-pub overflow-mul-requirement : goal.overflow-mul-requirement
-overflow-mul-requirement c = omega (arith, small c)
+pub overflow_mul-requirement : goal.overflow_mul-requirement
+overflow_mul-requirement c = omega (arith, small c)
 
-pub overflow-add-requirement : goal.overflow-add-requirement
-overflow-add-requirement c = omega (arith, small c)
+pub overflow_add-requirement : goal.overflow_add-requirement
+overflow_add-requirement c = omega (arith, small c)
 
 pub loop-i-preserved : goal.loop-i-preserved
 loop-i-preserved c =

@@ -8,9 +8,9 @@ use Rattle.account.proofs.pieces.margin_counts.Goals as goal
 pub loop-i-preserved : goal.loop-i-preserved
 loop-i-preserved c =
     let i = c.loop-i.i in
-    let f : SFits w64 c.margined-count.result = search rules in
+    let f : SFits w64 c.margined_count.result = search rules in
     let m = margined_more c.args.basis c.args.longs.now c.args.shorts.now i (omega arith) (omega arith) in
-    let n = rw (← c.margined-count.ensures.value) at m in
+    let n = rw (← c.margined_count.ensures.value) at m in
     rw (to_z-of_z w64 _ f) (written _ i _ (omega arith) c.loop-i.invariant n)
 
 pub returns : goal.returns

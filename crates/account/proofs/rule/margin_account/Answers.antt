@@ -10,42 +10,42 @@ use Rattle.account.proofs.Outcomes.{bounded_zeros}
 use Rattle.account.proofs.Reports.{report_is, padded, limits_on}
 use Rattle.account.proofs.rule.margin_account.Goals as goal
 
-pub tally-in-requires : goal.tally-in-requires
-tally-in-requires g c =
+pub tally_in-requires : goal.tally_in-requires
+tally_in-requires g c =
     let sheet = c.args.sheet.now in
-    let n = c.class-count-classes.result in
-    let few : n ≤ 16 = omega (arith, c.class-count-classes.ensures.value, sheet.few_classes) in
+    let n = c.class_count-classes.result in
+    let few : n ≤ 16 = omega (arith, c.class_count-classes.ensures.value, sheet.few_classes) in
     let z = lent 16 n few in
     record {
       longs = c.requires.longs;
       shorts = c.requires.shorts;
       held = c.requires.held;
       counts = ap length (lent 128 (length c.args.longs.now) (omega (arith, c.requires.longs, sheet.few_series))) ∙ length-replicate (length c.args.longs.now) (pos 0) ∙ c.requires.longs;
-      figures = ap length z ∙ length-replicate n (pos 0) ∙ c.class-count-classes.ensures.value;
+      figures = ap length z ∙ length-replicate n (pos 0) ∙ c.class_count-classes.ensures.value;
       bounded = subst Bounded (sym z) (bounded_zeros n);
     }
 
-pub value-of-value-requires : goal.value-of-value-requires
-value-of-value-requires g c = record { limits = limits_on c.args.sheet.now c.args.name c.tally-in.new.figures c.tally-in.new.sums c.rates-rates.result c.rates-rates.ensures.value c.in-ok-tally-in.ensures.sums }
+pub value_of-value-requires : goal.value_of-value-requires
+value_of-value-requires g c = record { limits = limits_on c.args.sheet.now c.args.name c.tally_in.new.figures c.tally_in.new.sums c.rates-rates.result c.rates-rates.ensures.value c.in_ok-tally_in.ensures.sums }
 
 pub offset-requirement-requires : goal.offset-requirement-requires
-offset-requirement-requires g c = record { limits = limits_on c.args.sheet.now c.args.name c.tally-in.new.figures c.tally-in.new.sums c.rates-rates.result c.rates-rates.ensures.value c.in-ok-tally-in.ensures.sums }
+offset-requirement-requires g c = record { limits = limits_on c.args.sheet.now c.args.name c.tally_in.new.figures c.tally_in.new.sums c.rates-rates.result c.rates-rates.ensures.value c.in_ok-tally_in.ensures.sums }
 
 pub returns : goal.returns
 returns g c =
     let rates = c.args.sheet.now.rates in
     let given = c.rates-rates.ensures.value in
     let o = c.offset-requirement.ensures in
-    let zs = c.tally-in.new.figures in
-    let sums = c.tally-in.new.sums in
-    let n = c.class-count-classes.result in
-    let few : n ≤ 16 = omega (arith, c.class-count-classes.ensures.value, c.args.sheet.now.few_classes) in
-    let f : SFits w64 c.value-of-value.result = search rules in
-    let long : length zs ≡ n = c.tally-in.auto.figures ∙ ap length (lent 16 n few) ∙ length-replicate n (pos 0) in
+    let zs = c.tally_in.new.figures in
+    let sums = c.tally_in.new.sums in
+    let n = c.class_count-classes.result in
+    let few : n ≤ 16 = omega (arith, c.class_count-classes.ensures.value, c.args.sheet.now.few_classes) in
+    let f : SFits w64 c.value_of-value.result = search rules in
+    let long : length zs ≡ n = c.tally_in.auto.figures ∙ ap length (lent 16 n few) ∙ length-replicate n (pos 0) in
     let e =
-    report_is _ sums _ c.offset-requirement.new.owed _ zs c.rates-rates.result (padded 16 n zs long) (to_z-of_z w64 _ f ∙ c.value-of-value.ensures.value) o.owed o.requirement
+    report_is _ sums _ c.offset-requirement.new.owed _ zs c.rates-rates.result (padded 16 n zs long) (to_z-of_z w64 _ f ∙ c.value_of-value.ensures.value) o.owed o.requirement
     ∙ ap (report_of zs sums) given in
-    let t = ap (λ r. and_then r (λ t. Ok (report_of t.figures t.sums rates))) c.in-ok-tally-in.ensures.answer in
+    let t = ap (λ r. and_then r (λ t. Ok (report_of t.figures t.sums rates))) c.in_ok-tally_in.ensures.answer in
     record {
       answer = ap Ok e ∙ t;
       after = e ∙ ap (λ r. left_in r c.args.report.now) t;

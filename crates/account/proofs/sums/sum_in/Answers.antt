@@ -16,7 +16,7 @@ loop-i-preserved c =
     let b = sum_back c.loop-i.sum r (omega (arith, inv.0, c.share-sum.ensures.bound)) in
     let m = sum_more c.args.wanted c.args.sheet.now.classes.now c.args.figures.now i (omega arith) (omega arith) in
     let v = rw (back (get_or c.args.figures.now i (pos 0)) (omega (arith, c.requires.bounded i))) at c.share-sum.ensures.value in
-    let row = ap (λ (k : ClassRow). cond (same_currency k.currency c.args.wanted) (get_or c.args.figures.now i (pos 0)) (pos 0)) c.class-row.ensures.value in
+    let row = ap (λ (k : ClassRow). cond (same_currency k.currency c.args.wanted) (get_or c.args.figures.now i (pos 0)) (pos 0)) c.class_row.ensures.value in
     let n = rw (← (v ∙ row)) at m in
     rw (e, b) (omega (arith, abs_add c.loop-i.sum r, inv.0, c.share-sum.ensures.bound), omega (arith, ints, n, inv.1))
 

@@ -9,15 +9,15 @@ use Rattle.account.proofs.sums.value_of.Goals as goal
 pub loop-i-preserved : goal.loop-i-preserved
 loop-i-preserved c =
     let i = c.loop-i.i in
-    let r = c.value-line-value.result in
-    let e = c.loop-i.value_is in
+    let r = c.value_line-value.result in
+    let e = c.loop-i.value-is in
     let inv = rw e at c.loop-i.invariant in
-    let b = sum_back c.loop-i.value r (omega (arith, inv.0, c.value-line-value.ensures.bound)) in
+    let b = sum_back c.loop-i.value r (omega (arith, inv.0, c.value_line-value.ensures.bound)) in
     let m = value_more c.args.sums.now c.args.rates.now i (omega arith) (omega arith) in
     let f : SFits w64 (get_or c.args.sums.now c.loop-i.i (pos 0)) = search rules in
-    let v = rw (to_z-of_z w64 _ f) at c.value-line-value.ensures.value in
+    let v = rw (to_z-of_z w64 _ f) at c.value_line-value.ensures.value in
     let n = rw (← v) at m in
-    rw (e, b) (omega (arith, abs_add c.loop-i.value r, inv.0, c.value-line-value.ensures.bound), omega (arith, ints, n, inv.1))
+    rw (e, b) (omega (arith, abs_add c.loop-i.value r, inv.0, c.value_line-value.ensures.bound), omega (arith, ints, n, inv.1))
 
 pub returns : goal.returns
 returns c = let e = drop_all c.loop-i.i c.args.sums.now (omega arith) in record { value = omega (arith, ints, rw e at c.loop-i.invariant.1); bound = omega (arith, c.loop-i.invariant.0) }
