@@ -1,9 +1,8 @@
 //! A charge that a broker brings in: so many cents for every contract, long or short.
-ghost use Rattle.std.specs.Prelude.{◌≡◌, ℕ, ◌*◌, ◌≤◌, true, length, pos, unsigned_abs};
-ghost use Rattle.std.proofs.Common.{ap, ◌∙◌, mul-le-mul_right, add-mul, zero-mul, arith};
+ghost use Rattle.std.specs.Prelude.{◌≡◌, ◌≤◌, true, length, pos, unsigned_abs};
 ghost use Rattle.charge.specs.Positions.{fits};
 ghost use Rattle.parts.specs.Flat.{flat, gross};
-ghost use Rattle.parts.specs.FlatChargeLemmas.{gross_none, gross_joined};
+ghost use Rattle.parts.specs.FlatChargeLemmas.{flat_lawful};
 
 use charge::charges::Charge;
 use charge::positions::{both_fitting, fitting, outside};
@@ -50,11 +49,7 @@ fn gross_of(class: &Class, position: &[i64]) -> u64
 impl Charge for FlatRate {
     ghost meaning = { λ s. flat s.cents };
 
-    ghost lawful = { λ s.
-        record {
-          zero = λ t n. ap (λ (k : ℕ). k * s.cents) (gross_none n) ∙ zero-mul s.cents;
-          join = λ t p q e. omega (arith, mul-le-mul_right s.cents (gross_joined p q), add-mul (gross p) (gross q) s.cents);
-        } };
+    ghost lawful = { λ s. flat_lawful s.cents };
 
     fn amount(&self, class: &Class, position: &[i64]) -> Result<i64, Fault> {
         if !fitting(class, position) {

@@ -6,4 +6,4 @@ use Rattle.parts.proofs.flat.FlatRateCharge.allowance.Goals as goal
 
 pub returns : goal.returns
 unfolding limited
-returns c = record { answer = answered _ 0 (Other 20) (Other 20) _ (sym c.both-fitting.ensures.value ∙ c.if-not-both-fitting.false) refl }
+returns c = record { answer = answered _ 0 (Other 20) (Other 20) _ (sym c.both_fitting.ensures.value ∙ c.if-not-both_fitting.false) refl }
