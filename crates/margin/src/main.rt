@@ -2,7 +2,11 @@
 #![tactic(auto)]
 
 use closing::ending::{Refused, close};
+use std::process::ExitCode;
 
-fn main(rt: HostRuntime) -> Result<(), Refused> {
-    close(&rt)
+fn main(rt: HostRuntime) -> ExitCode {
+    match close(&rt) {
+        Ok(()) => ExitCode::SUCCESS,
+        Err(Refused) => ExitCode::FAILURE,
+    }
 }
