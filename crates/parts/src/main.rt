@@ -1,23 +1,14 @@
-//! The parts of PRiME's charge on the clearing house's example, a charge that a broker brings in, and accounts margined by PRiME's charge and by others,
-//! each beside the figure that is published or worked out by hand.
+//! The parts of PRiME's charge on the clearing house's example, and a charge that a broker brings in, each beside the figure that is published or worked out by hand.
 #![tactic(auto)]
 
-mod accounts;
-mod cents;
-mod example;
-mod flat;
-mod margins;
-
-use crate::accounts::show_accounts;
-use crate::cents::show_cents;
-use crate::example::list_home;
-use crate::flat::FlatRate;
 use charge::charges::Charge;
 use charge::composites::{Greater, Sum, prime};
 use charge::minimum::Minimum;
 use charge::scanning::Scanning;
 use charge::spread::Spread;
 use closing::memory::{CLASS, SERIES};
+use example::flat::FlatRate;
+use example::market::list_home;
 use sheet::classes::Class;
 use sheet::drafts::DraftSheet;
 use std::io;
@@ -38,9 +29,7 @@ fn main(rt: HostRuntime) -> io::Result<()> {
     show_offset(&rt, &class)?;
     show_house(&rt, &class)?;
     show_brought_in(&rt, &class)?;
-    show_limits(&rt, &class)?;
-    show_accounts(&rt)?;
-    show_cents(&rt)
+    show_limits(&rt, &class)
 }
 
 /// Prints a charge's answer beside what it should be.

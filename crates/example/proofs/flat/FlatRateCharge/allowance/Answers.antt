@@ -2,7 +2,7 @@ use Rattle.std.proofs.Common.{sym, refl, ◌∙◌}
 use Rattle.terms.specs.declared.words.Label.TheVariants.{Other}
 use Rattle.charge.specs.Answers.{limited}
 use Rattle.charge.proofs.Parts.{answered}
-use Rattle.parts.proofs.flat.FlatRateCharge.allowance.Goals as goal
+use Rattle.example.proofs.flat.FlatRateCharge.allowance.Goals as goal
 
 pub returns : goal.returns
 unfolding limited

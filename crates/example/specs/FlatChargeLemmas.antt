@@ -3,7 +3,7 @@ use Rattle.std.proofs.Common.{ap, ◌∙◌, mul-le-mul_right, add-mul, zero-mul
 use Rattle.std.proofs.lemmas.Int.{ints}
 use Rattle.charge.specs.Positions.{joined}
 use Rattle.charge.specs.Meanings.{Lawful}
-use Rattle.parts.specs.Flat.{flat, gross}
+use Rattle.example.specs.Flat.{flat, gross}
 
 pub gross_none : (n : ℕ) → gross (replicate n (pos 0)) ≡ 0
 gross_none zero = refl

@@ -1,6 +1,4 @@
 //! Accounts of the example, margined by PRiME's charge, by a sum of three parts and by a flat rate.
-use crate::example::{list_both, open_house, open_omnibus};
-use crate::flat::FlatRate;
 use crate::margins::{Wanted, show_margin};
 use book::books::Book;
 use charge::composites::{Greater, Sum, prime};
@@ -8,6 +6,8 @@ use charge::minimum::Minimum;
 use charge::scanning::Scanning;
 use charge::spread::Spread;
 use closing::memory::{ACCOUNT, CLASS, SERIES};
+use example::flat::FlatRate;
+use example::market::{list_both, open_house, open_omnibus};
 use sheet::drafts::DraftSheet;
 use sheet::sheets::Sheet;
 use std::io;

@@ -1,8 +1,8 @@
 //! A charge that a broker brings in: so many cents for every contract, long or short.
 ghost use Rattle.std.specs.Prelude.{◌≡◌, ◌≤◌, true, length, pos, unsigned_abs};
 ghost use Rattle.charge.specs.Positions.{fits};
-ghost use Rattle.parts.specs.Flat.{flat, gross};
-ghost use Rattle.parts.specs.FlatChargeLemmas.{flat_lawful};
+ghost use Rattle.example.specs.Flat.{flat, gross};
+ghost use Rattle.example.specs.FlatChargeLemmas.{flat_lawful};
 
 use charge::charges::Charge;
 use charge::positions::{both_fitting, fitting, outside};

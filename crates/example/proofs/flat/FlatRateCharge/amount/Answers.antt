@@ -7,8 +7,8 @@ use Rattle.terms.specs.declared.words.Label.TheVariants.{Other}
 use Rattle.terms.specs.Faults.{with_label}
 use Rattle.charge.specs.Answers.{limited, too_large}
 use Rattle.charge.proofs.Parts.{answered}
-use Rattle.parts.specs.Flat.{gross}
-use Rattle.parts.proofs.flat.FlatRateCharge.amount.Goals as goal
+use Rattle.example.specs.Flat.{gross}
+use Rattle.example.proofs.flat.FlatRateCharge.amount.Goals as goal
 
 within : (n : ℕ) (z : ℤ) → z ≡ pos n → n ≤ 100000000000 → Ok z ≡ limited n (Other 20)
 unfolding limited

@@ -1,6 +1,6 @@
 use Rattle.std.proofs.Common.{◌≡◌, ◌+◌, ◌*◌, ◌≤◌, drop}
-use Rattle.parts.specs.Flat.{gross}
-use Rattle.parts.proofs.flat.gross_of.Given as goal
+use Rattle.example.specs.Flat.{gross}
+use Rattle.example.proofs.flat.gross_of.Given as goal
 
 -- what was added and what is left to add are the whole sum
 abbrev pub invariant-loop-i : goal.invariant-loop-i

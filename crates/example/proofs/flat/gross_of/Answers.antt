@@ -2,8 +2,8 @@ use Rattle.std.proofs.Common.{length, get_or, pos, arith, w64, SFits, rules}
 use Rattle.std.proofs.lemmas.List.{at_drop_more, at_drop_all}
 use Rattle.std.proofs.lemmas.Int.{to_z-of_z}
 use Rattle.charge.specs.Dots.{fits_parts}
-use Rattle.parts.specs.Flat.{gross}
-use Rattle.parts.proofs.flat.gross_of.Goals as goal
+use Rattle.example.specs.Flat.{gross}
+use Rattle.example.proofs.flat.gross_of.Goals as goal
 
 pub size_of-sum-requires : goal.size_of-sum-requires
 size_of-sum-requires c =
