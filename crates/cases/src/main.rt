@@ -12,7 +12,7 @@ use std::io::Read;
 use stream::reading::Stop;
 use terms::words::{Currency, Side};
 
-fn main(rt: HostRuntime) -> anyhow::Result<()> {
+fn main(rt: HostRuntime) -> io::Result<()> {
     let mut script = Vec::new(rt.alloc());
     rt.stdin().read_to_end(&mut script)?;
     let mut input = Vec::new(rt.alloc());
@@ -39,7 +39,7 @@ fn main(rt: HostRuntime) -> anyhow::Result<()> {
 }
 
 /// Prints the name of a case.
-fn name(rt: &HostRuntime, line: &[u8]) -> anyhow::Result<()> {
+fn name(rt: &HostRuntime, line: &[u8]) -> io::Result<()> {
     if let Ok(text) = std::str::from_utf8(line) {
         println!(rt; "{text}")?;
     }
@@ -72,7 +72,7 @@ fn times(digits: &[u8]) -> u32 {
 }
 
 /// Prints what the program would say to an input.
-fn judge(rt: &HostRuntime, input: &[u8]) -> anyhow::Result<()> {
+fn judge(rt: &HostRuntime, input: &[u8]) -> io::Result<()> {
     match margin(rt, input) {
         Ok(()) => {}
         Err(Stop::Refused(fault)) => tell(&mut rt.stdout(), fault)?,
