@@ -1,3 +1,4 @@
+-- A sum's size is at most the sizes of its parts.
 use Rattle.std.specs.Prelude.{◌≡◌, ℕ, zero, suc, ◌+◌, ◌*◌, ◌≤◌, List, [], ◌∷◌, replicate, ℤ, pos, refl}
 use Rattle.std.proofs.Common.{ap, ◌∙◌, mul-le-mul_right, add-mul, zero-mul, arith}
 use Rattle.std.proofs.lemmas.Int.{ints}
