@@ -15,11 +15,11 @@ is_true false h = absurd h
 pub is_T : (b : Bool) → b ≡ true → T b
 is_T b e = rw e tt
 
-and_T : (a b : Bool) → T (a && b) → (a ≡ true) × T b
+pub and_T : (a b : Bool) → T (a && b) → (a ≡ true) × T b
 and_T true b h = (refl, h)
 and_T false b h = absurd h
 
-T_and : (a b : Bool) → a ≡ true → T b → T (a && b)
+pub T_and : (a b : Bool) → a ≡ true → T b → T (a && b)
 T_and a b e h = rw e h
 
 module _ {R : Type 0} (p : R → Bool) where
