@@ -5,9 +5,14 @@ use lib.IntN.{+ℤ_idl, +ℤ_idr}
 use Rattle.std.proofs.lemmas.List.{at_drop_more, at_drop_all, get_or-replicate, set-set, set-get_or}
 use Rattle.std.proofs.lemmas.List.FromFn.{length-map-range_with_len, get_or-map-range_with_len}
 use Rattle.std.proofs.lemmas.Bool.{leb-true}
+use Rattle.std.proofs.lemmas.Result.{err_from_is_err_and}
+use Rattle.std.specs.Result.{MatchResult, IsErrAnd}
 use Rattle.terms.specs.declared.faults.Fault.{Fault}
 use Rattle.terms.specs.declared.words.Label.{Label}
 use Rattle.terms.specs.declared.words.Basis.TheVariants.{Gross}
+use Rattle.terms.specs.declared.words.Refusal.TheVariants.{TooLarge}
+use Rattle.terms.specs.declared.words.Layer.TheVariants.{Account}
+use Rattle.terms.specs.Faults.{refused}
 use Rattle.sheet.specs.Given.{Terms}
 use Rattle.charge.specs.Positions.{fits}
 use Rattle.charge.specs.Answers.{limited, answer, too_large, outside}
@@ -17,8 +22,8 @@ use Rattle.terms.specs.declared.codes.Code.{Code}
 use Rattle.terms.specs.declared.names.Name.{Name}
 use Rattle.terms.specs.declared.words.Basis.{Basis}
 use Rattle.account.specs.Outcomes.{beyond, and_then, plus}
-use Rattle.account.specs.Pieces.{single, pieces, mark}
-use Rattle.account.specs.Figures.{class_too_large, handed_up, amounts, class_figure}
+use Rattle.account.specs.Pieces.{single, pieces, mark, marks}
+use Rattle.account.specs.Figures.{in_class, handed_up, amounts, position_figure, class_figure}
 use Rattle.account.proofs.Marks.{marks_of_pieces}
 use Rattle.account.proofs.Outcomes.{never}
 
@@ -45,11 +50,6 @@ plus_none (Err e) = refl
 plus_more : {E : Type 0} (a y : ℤ) (r : Result ℤ E) → plus a (plus y r) ≡ plus (a +ℤ y) r
 plus_more a y (Ok x) = ap Ok (omega (arith, ints))
 plus_more a y (Err e) = refl
-
--- a net position is charged as one piece
-pub one_amount : (r : Result ℤ Fault) → and_then r (λ x. plus x (Ok (pos 0))) ≡ r
-one_amount (Ok x) = ap Ok (+ℤ_idr x)
-one_amount (Err e) = refl
 
 -- the piece that is charged, and what is left when its count is set back
 single_is : (a cs : List ℤ) (i : ℕ) (x : ℤ) → a ≡ replicate (length cs) (pos 0) → x ≡ get_or cs i (pos 0) → set a i x ≡ single cs i
@@ -87,15 +87,33 @@ pub amount_made : (m : Meaning) (t : Terms) (p : List ℤ) (r : Result ℤ Fault
 amount_made m t p (Ok z) e = omega (arith, amount_small m t p z e)
 amount_made m t p (Err f) e = tt
 
--- the class figure by what was computed: z the mark, r the answer of the charges
-module _ (m : Meaning) (name : Name) (b : Basis) (code : Code) (t : Terms) (p : List ℤ) (z : ℤ) (e : z ≡ mark t.rows p) where
-  at_mark : class_figure m name b code t p ≡ cond (beyond z) (Err (class_too_large name code)) (plus z (handed_up name code (amounts m t (pieces b p))))
-  at_mark = ap (λ (x : ℤ). cond (beyond x) (Err (class_too_large name code)) (plus x (handed_up name code (amounts m t (pieces b p))))) (marks_of_pieces b t.rows p ∙ sym e)
+-- the figure of a position by what was computed: z the mark, r the answer of the charges
+module _ (m : Meaning) (b : Basis) (t : Terms) (p : List ℤ) (z : ℤ) (e : z ≡ mark t.rows p) where
+  at_mark : position_figure m b t p ≡ cond (beyond z) (Err (refused TooLarge Account)) (plus z (amounts m t (pieces b p)))
+  at_mark = ap (λ (x : ℤ). cond (beyond x) (Err (refused TooLarge Account)) (plus x (amounts m t (pieces b p)))) (marks_of_pieces b t.rows p ∙ sym e)
 
-  pub figure_refused : beyond z ≡ true → Err (class_too_large name code) ≡ class_figure m name b code t p
-  figure_refused h = sym (at_mark ∙ ap (λ (q : Bool). cond q (Err (class_too_large name code)) (plus z (handed_up name code (amounts m t (pieces b p))))) h)
+  pub figure_refused : beyond z ≡ true → Err (refused TooLarge Account) ≡ position_figure m b t p
+  figure_refused h = sym (at_mark ∙ ap (λ (q : Bool). cond q (Err (refused TooLarge Account)) (plus z (amounts m t (pieces b p)))) h)
 
-  pub figure_answered : beyond z ≡ false → (r : Result ℤ Fault) → r ≡ amounts m t (pieces b p) → plus z (handed_up name code r) ≡ class_figure m name b code t p
+  pub figure_answered : beyond z ≡ false → (r : Result ℤ Fault) → r ≡ amounts m t (pieces b p) → plus z r ≡ position_figure m b t p
   figure_answered h r k =
-      sym (at_mark ∙ ap (λ (q : Bool). cond q (Err (class_too_large name code)) (plus z (handed_up name code (amounts m t (pieces b p))))) h
-      ∙ ap (λ (x : Result ℤ Fault). plus z (handed_up name code x)) (sym k))
+      sym (at_mark ∙ ap (λ (q : Bool). cond q (Err (refused TooLarge Account)) (plus z (amounts m t (pieces b p)))) h
+      ∙ ap (λ (x : Result ℤ Fault). plus z x) (sym k))
+
+-- the figure of a class is that of its position, with account and class added to a refusal
+module _ (name : Name) (code : Code) where
+  placed : (q : Bool) (f : Fault) (z : ℤ) (r : Result ℤ Fault) → handed_up name code (cond q (Err f) (plus z r)) ≡ cond q (Err (in_class name code f)) (plus z (handed_up name code r))
+  placed true f z r = refl
+  placed false f z (Ok x) = refl
+  placed false f z (Err e) = refl
+
+  pub figure_placed : (m : Meaning) (b : Basis) (t : Terms) (p : List ℤ) → handed_up name code (position_figure m b t p) ≡ class_figure m name b code t p
+  figure_placed m b t p = placed (beyond (marks t.rows (pieces b p))) (refused TooLarge Account) (marks t.rows (pieces b p)) (amounts m t (pieces b p))
+
+  pub figure_moved : (m : Meaning) (b : Basis) (t u : Terms) (p q : List ℤ) (other : Code) → code ≡ other → t ≡ u → p ≡ q → class_figure m name b code t p ≡ class_figure m name b other u q
+  figure_moved m b t u p q other coded given counted = rw (coded, given, counted)
+
+  -- what `map_err` answers, where its closure adds account and class
+  pub handed : (r s : Result ℤ Fault) {P : Fault → Fault → Type 0} → MatchResult r (λ z. s ≡ Ok z) (λ e. IsErrAnd s (P e)) → ((e f : Fault) → P e f → f ≡ in_class name code e) → s ≡ handed_up name code r
+  handed (Ok z) s h told = h
+  handed (Err e) s h told = let p = err_from_is_err_and s h in p.1 ∙ ap Err (told e p.0 p.2)

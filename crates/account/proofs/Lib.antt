@@ -1,5 +1,4 @@
 pub mod Kit
-pub mod Written
 pub mod Outcomes
 pub mod Parts
 pub mod Marks

@@ -1,27 +1,27 @@
 -- Counts and marks are formed from the front; the marks of single series add up to the mark of them all.
-use Rattle.std.proofs.Common.{◌≡◌, ℕ, zero, suc, ◌+◌, ◌-◌, ◌<◌, ◌≤◌, List, [], ◌∷◌, map, length, get_or, take, drop, replicate, ℤ, pos, ◌+ℤ◌, ◌*ℤ◌, neg_ℤ, nat_abs, refl, ap, ◌∙◌, add-one, arith}
-use native.Mathlib.Nat.{sub-zero}
+use Rattle.std.proofs.Common.{◌≡◌, ℕ, zero, suc, ◌≤◌, List, [], ◌∷◌, map, length, replicate, ℤ, pos, ◌+ℤ◌, ◌*ℤ◌, neg_ℤ, nat_abs, refl, ap, ◌∙◌, add-one, arith}
 use borrow.Author.Differences.{ints}
 use lib.IntN.{+ℤ_idl, +ℤ_idr, zero-*ℤ}
 use Rattle.std.specs.List.{range_with_len}
-use Rattle.std.proofs.lemmas.List.{drop_more, take-replicate}
 use Rattle.terms.specs.declared.words.Basis.{Basis}
 use Rattle.terms.specs.declared.words.Basis.TheVariants.{Net, Gross}
-use Rattle.terms.specs.declared.words.Kind.TheVariants.{Call}
 use Rattle.sheet.specs.declared.rows.Series.{Series}
 use Rattle.sheet.specs.Limits.{worth_of, Worthy}
 use Rattle.account.specs.Pieces.{margined, margined_counts, single, pieces, mark, marks, Small, Held}
 
--- one step of each loop
-pub margined_more : (b : Basis) (ls ss : List ℕ) (i : ℕ) → i < length ls → i < length ss → margined_counts b (drop i ls) (drop i ss) ≡ margined b (get_or ls i 0) (get_or ss i 0) ∷ margined_counts b (drop (i + 1) ls) (drop (i + 1) ss)
-margined_more b ls ss i p q = rw (drop_more ls i 0, drop_more ss i 0)
+-- one series, and the series after it: what a loop over rows and counts has ahead of it
+pub worths_ahead : (all : List Series) (r : Series) (rows : List Series) → all ≡ r ∷ rows → Worthy all → (worth_of r ≤ 10000000) × Worthy rows
+worths_ahead all r rows e w = let h : Worthy (r ∷ rows) = rw e at w in (h 0, λ k. h (suc k))
 
--- what a row past the end reads as
-abbrev pub no_row : Series
-no_row = record { key = record { class = record { first = 0; second = 0; third = 0 }; month = 0; kind = Call; strike = 0 }; price = 0; shares = 0; delta = pos 0; array = [] }
+pub small_ahead : (all : List ℤ) (n : ℤ) (counts : List ℤ) → all ≡ n ∷ counts → Small all → (nat_abs n ≤ 3200000) × Small counts
+small_ahead all n counts e w = let h : Small (n ∷ counts) = rw e at w in (h 0, λ k. h (suc k))
 
-pub mark_more : (rs : List Series) (cs : List ℤ) (i : ℕ) (d : Series) → i < length rs → i < length cs → mark (drop i rs) (drop i cs) ≡ neg_ℤ (get_or cs i (pos 0) *ℤ pos (worth_of (get_or rs i d))) +ℤ mark (drop (i + 1) rs) (drop (i + 1) cs)
-mark_more rs cs i d p q = rw (drop_more rs i d, drop_more cs i (pos 0))
+pub mark_ahead : (rows : List Series) (counts : List ℤ) (r : Series) (rs : List Series) (n : ℤ) (ns : List ℤ) → rows ≡ r ∷ rs → counts ≡ n ∷ ns → mark rows counts ≡ neg_ℤ (n *ℤ pos (worth_of r)) +ℤ mark rs ns
+mark_ahead rows counts r rs n ns p q = rw (p, q)
+
+pub mark_none : (rows : List Series) → mark rows [] ≡ pos 0
+mark_none [] = refl
+mark_none (r ∷ rows) = refl
 
 -- limits
 pub length_margined : (b : Basis) (ls ss : List ℕ) → length ls ≡ length ss → length (margined_counts b ls ss) ≡ length ls
@@ -38,15 +38,6 @@ counts_small b [] ss h k = omega arith
 counts_small b (l ∷ ls) [] h k = omega arith
 counts_small b (l ∷ ls) (s ∷ ss) h zero = margined_small b l s (h 0).0 (h 0).1
 counts_small b (l ∷ ls) (s ∷ ss) h (suc k) = counts_small b ls ss (λ j. h (suc j)) k
-
-pub worth_at : (rows : List Series) → Worthy rows → (i : ℕ) (d : Series) → i < length rows → worth_of (get_or rows i d) ≤ 10000000
-worth_at [] h i d p = absurd (omega arith)
-worth_at (r ∷ rows) h zero d p = h 0
-worth_at (r ∷ rows) h (suc i) d p = worth_at rows (λ k. h (suc k)) i d (omega arith)
-
--- the front of a new array of m places
-pub lent : (m n : ℕ) → n ≤ m → take (n - 0) (replicate m (pos 0)) ≡ replicate n (pos 0)
-lent m n p = rw (sub-zero n) (take-replicate n m (pos 0) p)
 
 -- a gross account: the marks of the pieces add up to the mark of the counts
 nothing : (z : ℤ) (r : Series) → neg_ℤ (pos 0 *ℤ pos (worth_of r)) +ℤ z ≡ z

@@ -1,8 +1,7 @@
 -- The surplus of the requirement over the value is what is left of the fund; the law follows from that balance.
-use Rattle.std.proofs.Common.{◌≡◌, ℕ, zero, suc, ◌+◌, ◌-◌, ◌*◌, ◌/◌, ◌<◌, ◌≤◌, List, [], ◌∷◌, length, get_or, drop, ℤ, pos, negsuc, ◌*ℤ◌, sym, refl, ap, ◌∙◌, mul-le-mul_right, add-mul, div-mul-le_self, arith}
+use Rattle.std.proofs.Common.{◌≡◌, ℕ, zero, suc, ◌+◌, ◌-◌, ◌*◌, ◌/◌, ◌<◌, ◌≤◌, List, [], ◌∷◌, get_or, ℤ, pos, negsuc, ◌*ℤ◌, sym, refl, ap, ◌∙◌, mul-le-mul_right, add-mul, div-mul-le_self, arith}
 use native.Mathlib.Nat.{lt-div-mul-add}
 use borrow.Author.Differences.{up, down, ints}
-use Rattle.std.proofs.lemmas.List.{drop_more}
 use Rattle.account.specs.Sums.{value_of}
 use Rattle.account.specs.Offset.{debit, credit, fund_of, loses, owed_of, requirement_of, Law, Owable}
 
@@ -92,22 +91,6 @@ law ss rs h =
       covered = omega (arith, ints, b, v);
       close = λ k q. omega (arith, ints, b, v, short f ss rs h k q);
     }
-
--- one step of each loop
-pub fund_more : (ss : List ℤ) (rs : List ℕ) (i : ℕ) → i < length ss → i < length rs → fund_of (drop i ss) (drop i rs) ≡ credit (get_or ss i (pos 0)) * get_or rs i 0 + fund_of (drop (i + 1) ss) (drop (i + 1) rs)
-fund_more ss rs i p q = rw (drop_more ss i (pos 0), drop_more rs i 0)
-
-pub owed_more : (f : ℕ) (ss : List ℤ) (rs : List ℕ) (i : ℕ) → i < length ss → i < length rs →
-    owed_of f (drop i ss) (drop i rs) ≡ (debit (get_or ss i (pos 0)) - loses f (debit (get_or ss i (pos 0))) (get_or rs i 0)) ∷ owed_of (f - loses f (debit (get_or ss i (pos 0))) (get_or rs i 0) * get_or rs i 0) (drop (i + 1) ss) (drop (i + 1) rs)
-owed_more f ss rs i p q = rw (drop_more ss i (pos 0), drop_more rs i 0)
-
--- the same, at names for what the code computed: d the debit, r the rate, x what it loses
-module _ (f : ℕ) (ss : List ℤ) (rs : List ℕ) (i d r x : ℕ) (p : i < length ss) (q : i < length rs) (ed : d ≡ debit (get_or ss i (pos 0))) (er : r ≡ get_or rs i 0) (ex : x ≡ loses f d r) where
-  pub owed_step : owed_of f (drop i ss) (drop i rs) ≡ (d - x) ∷ owed_of (f - x * r) (drop (i + 1) ss) (drop (i + 1) rs)
-  owed_step = rw (ex, ed, er) (owed_more f ss rs i p q)
-
-  pub requirement_step : requirement_of (owed_of f (drop i ss) (drop i rs)) (drop i rs) ≡ (d - x) * r + requirement_of (owed_of (f - x * r) (drop (i + 1) ss) (drop (i + 1) rs)) (drop (i + 1) rs)
-  requirement_step = rw (owed_step, drop_more rs i 0, er)
 
 -- nothing owed is more than its debit
 pub owed_owable : (f : ℕ) (ss : List ℤ) (rs : List ℕ) → ((k : ℕ) → debit (get_or ss k (pos 0)) ≤ 100000000000) → Owable (owed_of f ss rs)

@@ -1,11 +1,15 @@
 -- The part of a list from one place to another: its length and its numbers.
-use Rattle.std.proofs.Common.{◌≡◌, ℕ, ◌+◌, ◌-◌, ◌<◌, ◌≤◌, List, length, take, drop, ℤ, ⊎_elim, arith}
+use Rattle.std.proofs.Common.{◌≡◌, ℕ, ◌+◌, ◌-◌, ◌<◌, ◌≤◌, List, length, take, drop, ℤ, sym, ap, ◌∙◌, ⊎_elim, arith}
 use Rattle.std.proofs.lemmas.List.{get_or-take, get_or-drop, get_or_past, length-take, length-drop}
 use Rattle.std.proofs.lemmas.Bool.{cases_lt}
 use Rattle.account.specs.Pieces.{Small}
 
-pub length_part : {X : Type 0} (xs : List X) (a e : ℕ) → a ≤ e → e ≤ length xs → length (take (e - a) (drop a xs)) ≡ e - a
+length_part : {X : Type 0} (xs : List X) (a e : ℕ) → a ≤ e → e ≤ length xs → length (take (e - a) (drop a xs)) ≡ e - a
 length_part xs a e p q = simp (length-take, length-drop) (omega arith)
+
+-- beside each element of a part there is one of the same part of a list that is as long
+pub each_of_part : {X Y : Type 0} (xs : List X) (ys : List Y) (part : List Y) (a e : ℕ) → a ≤ e → e ≤ length ys → length xs ≡ length ys → take (e - a) (drop a ys) ≡ part → length (take (e - a) (drop a xs)) ≡ length part
+each_of_part xs ys part a e p q long is = length_part xs a e p (omega arith) ∙ sym (length_part ys a e p q) ∙ ap length is
 
 pub small_part : (xs : List ℤ) (a e : ℕ) → Small xs → Small (take (e - a) (drop a xs))
 small_part xs a e h k = ⊎_elim

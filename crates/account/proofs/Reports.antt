@@ -1,6 +1,5 @@
 -- The report that is written is the report of the rule, and every report of the rule keeps the law of the offset.
 use Rattle.std.proofs.Common.{◌≡◌, ℕ, ◌-◌, List, ◌++◌, length, drop, replicate, ℤ, pos, Ok, sym, refl, ap, subst}
-use native.Mathlib.Nat.{sub-zero}
 use Rattle.std.proofs.lemmas.List.{drop-replicate}
 use Rattle.terms.specs.declared.names.Name.{Name}
 use Rattle.terms.specs.declared.words.Basis.{Basis}
@@ -12,14 +11,14 @@ use Rattle.account.specs.Pieces.{margined_counts}
 use Rattle.account.specs.Figures.{figures_of}
 use Rattle.account.specs.Sums.{sums_of, value_of}
 use Rattle.account.specs.Offset.{fund_of, owed_of, requirement_of, Limits, Law, Owable}
-use Rattle.account.specs.Rule.{tally, tally_of, report_of, report_on}
+use Rattle.account.specs.Rule.{tally, tally_of, report_of, account_report}
 use Rattle.account.proofs.Outcomes.{after_ok}
 use Rattle.account.proofs.Totals.{sums_limits}
 use Rattle.account.proofs.Offsets.{law, owed_owable}
 
 -- figures at the front of a new array of m places
-pub padded : (m n : ℕ) (zs : List ℤ) → length zs ≡ n → zs ++ drop (n - 0) (replicate m (pos 0)) ≡ zs ++ replicate (m - length zs) (pos 0)
-padded m n zs e = ap (λ l. zs ++ l) (rw (sub-zero n, e) (drop-replicate n m (pos 0)))
+pub padded : (m n : ℕ) (zs : List ℤ) → length zs ≡ n → zs ++ drop n (replicate m (pos 0)) ≡ zs ++ replicate (m - length zs) (pos 0)
+padded m n zs e = ap (λ l. zs ++ l) (rw e (drop-replicate n m (pos 0)))
 
 pub report_is : (a sums : List ℤ) (v : ℤ) (owed : List ℕ) (q : ℕ) (zs : List ℤ) (rates : List ℕ) → a ≡ zs ++ replicate (16 - length zs) (pos 0) → v ≡ value_of sums rates → owed ≡ owed_of (fund_of sums rates) sums rates → q ≡ requirement_of owed rates →
     ◌≡◌ {A = AccountReport} (record { class_figures = a; sums = sums; value = v; owed = owed; requirement = q }) (report_of zs sums rates)
@@ -28,10 +27,10 @@ report_is a sums v owed q zs rates e1 e2 e3 e4 = rw (e1, e2, e4, e3)
 -- accepted sums are within the limits of the offset, at the sheet's rates
 pub limits_on : (sheet : Sheet) (name : Name) (figures sums : List ℤ) (rates : List ℕ) → rates ≡ sheet.rates → Ok sums ≡ sums_of name sheet.classes.now figures → Limits sums rates
 limits_on sheet name figures sums rates e h =
-    subst (Limits sums) (sym e) (sums_limits name sheet.classes.now figures sums sheet.rates (sym h) sheet.rates_fit sheet.classes_fit)
+    subst (Limits sums) (sym e) (sums_limits name sheet.classes.now figures sums sheet.rates (sym h) sheet.whole.rates_fit sheet.whole.classes_fit)
 
 -- what a report of the rule comes from
-module _ (m : Meaning) (sheet : Sheet) (name : Name) (b : Basis) (longs shorts : List ℕ) (report : AccountReport) (e : report_on m sheet name b longs shorts ≡ Ok report) where
+module _ (m : Meaning) (sheet : Sheet) (name : Name) (b : Basis) (longs shorts : List ℕ) (report : AccountReport) (e : account_report m name b sheet.rates sheet.classes.now sheet.series.now longs shorts ≡ Ok report) where
   report_from : (figures : List ℤ) × (sums : List ℤ) × (sums_of name sheet.classes.now figures ≡ Ok sums) × (report_of figures sums sheet.rates ≡ report)
   report_from =
       let counts = margined_counts b longs shorts in

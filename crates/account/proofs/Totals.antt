@@ -1,30 +1,62 @@
 -- Currency sums and values are formed from the front; accepted sums lie within their limit, and a debit has a rate.
-use Rattle.std.proofs.Common.{◌≡◌, ℕ, zero, suc, ◌+◌, ◌<◌, ◌≤◌, Bool, true, false, cond, T, List, [], ◌∷◌, length, get_or, drop, ℤ, pos, negsuc, ◌+ℤ◌, ◌*ℤ◌, nat_abs, Ok, Err, Result, refl, ap, ⊎_elim, arith}
+use Rattle.std.proofs.Common.{◌≡◌, ℕ, zero, suc, ◌+◌, ◌*◌, ◌<◌, ◌≤◌, Bool, true, false, cond, List, [], ◌∷◌, length, get_or, drop, ℤ, pos, negsuc, ◌+ℤ◌, ◌*ℤ◌, nat_abs, Ok, Err, Result, refl, ap, ⊎_elim, arith}
 use lib.IntN.{+ℤ_idl}
-use Rattle.std.specs.List.{AllByRecursion as All, list_all}
+use Rattle.std.specs.List.{All as AllAt, AllByRecursion as All}
+use Rattle.std.specs.Prelude.{IsTrue}
 use Rattle.std.proofs.lemmas.List.{drop_more}
 use Rattle.std.proofs.lemmas.Bool.{cases_lt, cases_Bool, ltb-false, eqb-true, and_parts, ltb-true}
 use Rattle.terms.specs.declared.faults.Fault.{Fault}
 use Rattle.terms.specs.declared.names.Name.{Name}
 use Rattle.terms.specs.declared.words.Currency.{Currency}
-use Rattle.terms.specs.declared.words.Currency.TheVariants.{Rmb}
+use Rattle.terms.specs.declared.words.Currency.TheVariants.{Hkd, Usd, Eur, Jpy, Rmb}
+use Rattle.terms.specs.contracts.words.Currency.{the_type}
+use denote.Enum.Declared.{tag_of}
+use denote.Enum.Bare.{sameb}
 use Rattle.terms.specs.Words.{currency_number}
 use Rattle.sheet.specs.declared.rows.ClassRow.{ClassRow}
 use Rattle.sheet.specs.Limits.{quoted, class_fits}
 use Rattle.sheet.specs.Given.{no_class}
-use Rattle.register.proofs.Passes.{all_from_pass}
+use Rattle.std.proofs.lemmas.List.Elements.{recursion_from_All}
 use Rattle.account.specs.Outcomes.{beyond, and_then, onto, each}
 use Rattle.account.specs.Sums.{currencies, currency_at, same_currency, sum_of, currency_too_large, currency_sum, sums_of, value_of}
-use Rattle.account.specs.Offset.{debit, credit, Limits}
+use Rattle.account.specs.Offset.{debit, credit, fund_of, Limits}
 use Rattle.account.proofs.Outcomes.{never}
 
--- one step of each loop
+-- equal currencies are those of one number
+tagged : (c : Currency) → tag_of the_type c ≡ currency_number c
+tagged Hkd = refl
+tagged Usd = refl
+tagged Eur = refl
+tagged Jpy = refl
+tagged Rmb = refl
+
+pub same_is : (a b : Currency) → sameb the_type a b ≡ same_currency a b
+same_is a b = rw (tagged a, tagged b)
+
+-- one step of the loop over the class figures
 pub sum_more : (c : Currency) (ks : List ClassRow) (zs : List ℤ) (i : ℕ) → i < length ks → i < length zs →
     sum_of c (drop i ks) (drop i zs) ≡ cond (same_currency (get_or ks i no_class).currency c) (get_or zs i (pos 0)) (pos 0) +ℤ sum_of c (drop (i + 1) ks) (drop (i + 1) zs)
 sum_more c ks zs i p q = rw (drop_more ks i no_class, drop_more zs i (pos 0))
 
-pub value_more : (ss : List ℤ) (rs : List ℕ) (i : ℕ) → i < length ss → i < length rs → value_of (drop i ss) (drop i rs) ≡ get_or ss i (pos 0) *ℤ pos (get_or rs i 0) +ℤ value_of (drop (i + 1) ss) (drop (i + 1) rs)
-value_more ss rs i p q = rw (drop_more ss i (pos 0), drop_more rs i 0)
+-- one currency, and the currencies after it: what a loop over sums and rates has ahead of it
+module _ (all : List ℤ) (rates : List ℕ) (s : ℤ) (ss : List ℤ) (r : ℕ) (rs : List ℕ) (first : all ≡ s ∷ ss) (second : rates ≡ r ∷ rs) where
+  pub limits_ahead : Limits all rates → Limits ss rs
+  limits_ahead l =
+      let h : Limits (s ∷ ss) (r ∷ rs) = rw (first, second) at l in
+      record { debits = λ k. h.debits (suc k); credits = λ k. h.credits (suc k); low = λ k. h.low (suc k); rated = λ k. h.rated (suc k) }
+
+  pub one_limited : Limits all rates → (debit s ≤ 100000000000) × (credit s ≤ 100000000000) × (r ≤ 200000)
+  one_limited l = let h : Limits (s ∷ ss) (r ∷ rs) = rw (first, second) at l in (h.debits 0, h.credits 0, h.low 0)
+
+  pub value_ahead : value_of all rates ≡ s *ℤ pos r +ℤ value_of ss rs
+  value_ahead = rw (first, second)
+
+  pub fund_ahead : fund_of all rates ≡ credit s * r + fund_of ss rs
+  fund_ahead = rw (first, second)
+
+pub value_none : (ss : List ℤ) → value_of ss [] ≡ pos 0
+value_none [] = refl
+value_none (s ∷ ss) = refl
 
 -- what accepted sums come from
 took : (r : Result ℤ Fault) (s : Result (List ℤ) Fault) (xs : List ℤ) → and_then r (λ z. onto (z ∷ []) s) ≡ Ok xs → (z : ℤ) × (zs : List ℤ) × (r ≡ Ok z) × (s ≡ Ok zs) × (xs ≡ z ∷ zs)
@@ -58,13 +90,14 @@ rated_sum (k ∷ ks) (z ∷ zs) c rates h p = ⊎_elim
     (λ (e : same_currency k.currency c ≡ false). rated_sum ks zs c rates h.1 (rw (e, +ℤ_idl (sum_of c ks zs)) at p))
     (cases_Bool (same_currency k.currency c))
 
-numbered : (k : ℕ) → k < 5 → currency_number (currency_at k) ≡ k
-numbered zero p = refl
-numbered (suc zero) p = refl
-numbered (suc (suc zero)) p = refl
-numbered (suc (suc (suc zero))) p = refl
-numbered (suc (suc (suc (suc zero)))) p = refl
-numbered (suc (suc (suc (suc (suc k))))) p = absurd (omega arith)
+-- a currency's number is its place in their order
+pub numbered : (k : ℕ) (d : Currency) → k < 5 → currency_number (get_or currencies k d) ≡ k
+numbered zero d p = refl
+numbered (suc zero) d p = refl
+numbered (suc (suc zero)) d p = refl
+numbered (suc (suc (suc zero))) d p = refl
+numbered (suc (suc (suc (suc zero)))) d p = refl
+numbered (suc (suc (suc (suc (suc k))))) d p = absurd (omega arith)
 
 debit_le : (z : ℤ) → debit z ≤ nat_abs z
 debit_le (pos n) = omega arith
@@ -74,13 +107,13 @@ credit_le : (z : ℤ) → credit z ≤ nat_abs z
 credit_le (pos n) = omega arith
 credit_le (negsuc n) = omega arith
 
-pub sums_limits : (name : Name) (ks : List ClassRow) (zs xs : List ℤ) (rates : List ℕ) → sums_of name ks zs ≡ Ok xs → ((k : ℕ) → get_or rates k 0 ≤ 200000) → T (list_all (class_fits rates) ks) → Limits xs rates
+pub sums_limits : (name : Name) (ks : List ClassRow) (zs xs : List ℤ) (rates : List ℕ) → sums_of name ks zs ≡ Ok xs → ((k : ℕ) → get_or rates k 0 ≤ 200000) → AllAt (λ k. IsTrue (class_fits rates k)) ks → Limits xs rates
 sums_limits name ks zs xs rates e low fit = record {
   debits = λ k. omega (arith, debit_le (get_or xs k (pos 0)), (sums_at name ks zs currencies xs e k).0);
   credits = λ k. omega (arith, credit_le (get_or xs k (pos 0)), (sums_at name ks zs currencies xs e k).0);
   low = low;
   rated = λ k p. ⊎_elim
-      (λ (l : k < 5). rw (numbered k l) at (rated_sum ks zs (currency_at k) rates (all_from_pass (class_fits rates) ks fit) (rw ((sums_at name ks zs currencies xs e k).1 l) at p)))
+      (λ (l : k < 5). rw (numbered k Rmb l) at (rated_sum ks zs (currency_at k) rates (recursion_from_All (λ k. class_fits rates k ≡ true) ks fit) (rw ((sums_at name ks zs currencies xs e k).1 l) at p)))
       (λ (l : 5 ≤ k). absurd (omega (arith, ap debit ((sums_at name ks zs currencies xs e k).2 l))))
       (cases_lt k 5);
 }

@@ -34,6 +34,12 @@ abbrev pub amounts : Meaning → Terms → List (List ℤ) → Result ℤ Fault
 amounts m t [] = Ok (pos 0)
 amounts m t (p ∷ ps) = and_then (amount_answer m t p) (λ x. plus x (amounts m t ps))
 
+-- The figure of a position: the mark to market of its pieces, which must not be too large, and then their charges; a refusal names no place yet.
+abbrev pub position_figure : Meaning → Basis → Terms → List ℤ → Result ℤ Fault
+position_figure m b t position =
+    cond (beyond (marks t.rows (pieces b position))) (Err (refused TooLarge Account))
+    (plus (marks t.rows (pieces b position)) (amounts m t (pieces b position)))
+
 -- The figure of a class: the mark to market of its pieces, which must not be too large, and then their charges.
 abbrev pub class_figure : Meaning → Name → Basis → Code → Terms → List ℤ → Result ℤ Fault
 class_figure m name b code t position =

@@ -4,3 +4,4 @@ pub mod Figures
 pub mod Sums
 pub mod Offset
 pub mod Rule
+pub mod Accounts

@@ -5,7 +5,6 @@ use Rattle.terms.specs.declared.words.Basis.{Basis}
 use Rattle.terms.specs.declared.faults.Fault.{Fault}
 use Rattle.sheet.specs.declared.rows.ClassRow.{ClassRow}
 use Rattle.sheet.specs.declared.rows.Series.{Series}
-use Rattle.sheet.specs.declared.sheets.Sheet.{Sheet}
 use Rattle.charge.specs.Meanings.{Meaning}
 use Rattle.account.specs.declared.rule.AccountReport.{AccountReport}
 use Rattle.account.specs.Outcomes.{and_then}
@@ -45,7 +44,3 @@ tally_of m name b classes rows counts =
 abbrev pub account_report : Meaning → Name → Basis → List ℕ → List ClassRow → List Series → List ℕ → List ℕ → Result AccountReport Fault
 account_report m name b rates classes rows longs shorts =
     and_then (tally_of m name b classes rows (margined_counts b longs shorts)) (λ t. Ok (report_of t.figures t.sums rates))
-
--- The same on a sealed sheet.
-abbrev pub report_on : Meaning → Sheet → Name → Basis → List ℕ → List ℕ → Result AccountReport Fault
-report_on m sheet name b longs shorts = account_report m name b sheet.rates sheet.classes.now sheet.series.now longs shorts

@@ -1,8 +1,10 @@
 //! What one account owes, by one rule for every charge.
 #![tactic(auto)]
 
-pub mod figures;
+pub mod accounts;
+mod figures;
 pub mod offset;
 pub mod pieces;
+pub mod positions;
 pub mod rule;
-pub mod sums;
+mod sums;

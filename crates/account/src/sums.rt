@@ -1,108 +1,64 @@
-//! The currency sums of an account, and its value.
-ghost use Rattle.std.specs.Prelude.{◌≡◌, ◌≤◌, length, pos, ◌*ℤ◌, if◌then◌else◌, unsigned_abs};
-ghost use Rattle.account.specs.Outcomes.{filled};
+//! The currency sums of an account.
+ghost use Rattle.std.specs.Prelude.{◌≡◌, length, IfOk};
+ghost use Rattle.std.specs.Result.{result_map_both};
 ghost use Rattle.account.specs.Figures.{Bounded};
-ghost use Rattle.account.specs.Sums.{currency_at, same_currency, sum_of, currency_sum, sums_of, value_of};
-ghost use Rattle.account.specs.Offset.{Limits};
+ghost use Rattle.account.specs.Sums.{sum_of, currency_sum};
+ghost use Rattle.account.specs.Accounts.{sums_on};
 
+use crate::accounts::Account;
+use crate::offset::CurrencySums;
 use crate::pieces::is_beyond;
-use sheet::sheets::Sheet;
 use terms::faults::Fault;
-use terms::names::Name;
 use terms::words::{Currency, Layer, Refusal};
 
-/// The currency of a place in their order.
-fn currency_of(place: usize) -> Currency
-    ensures value { result ≡ currency_at place }
-{
-    match place {
-        0 => Currency::Hkd,
-        1 => Currency::Usd,
-        2 => Currency::Eur,
-        3 => Currency::Jpy,
-        _ => Currency::Rmb,
-    }
+/// An account with the figure of each class of its sheet.
+#[derive(Clone, Copy)]
+pub(crate) struct ClassFigures<'a> {
+    pub(crate) account: Account<'a>,
+    pub(crate) figures: &'a [i64],
+    ghost each: { length figures.now ≡ length account.sheet.classes.now },
+    ghost bounded: { Bounded figures.now },
 }
 
-/// A class's figure, where it is of the currency that is wanted.
-fn share(currency: Currency, wanted: Currency, figure: i64) -> i64
-    requires limit { unsigned_abs figure ≤ 12900000000000 }
-    ensures value { result ≡ (if same_currency currency wanted then figure else pos 0) }
-    ensures bound { unsigned_abs result ≤ 12900000000000 }
-{
-    if currency.number() == wanted.number() {
-        figure
-    } else {
-        0
+impl ClassFigures<'_> {
+    /// The class figures of one currency, added up.
+    fn sum_in(&self, wanted: Currency) -> i64
+        ensures value { result ≡ sum_of wanted self.now.account.sheet.classes.now self.now.figures.now }
+    {
+        let mut sum = 0;
+        for (i, &figure) in self.figures.iter().enumerate() {
+            if self.account.sheet.class_row(i).currency == wanted {
+                sum += figure;
+            }
+        }
+        sum
     }
-}
 
-/// The class figures of one currency, added up.
-fn sum_in(sheet: &Sheet, figures: &[i64], wanted: Currency) -> i64
-    requires long { length figures.now ≡ length sheet.now.classes.now }
-    requires bounded { Bounded figures.now }
-    ensures value { result ≡ sum_of wanted sheet.now.classes.now figures.now }
-{
-    let mut sum = 0i64;
-    for i in 0..figures.len() {
-        sum += share(sheet.class_row(i).currency, wanted, figures[i]);
+    /// The sum of one currency, refused if it is too large.
+    fn currency_sum(&self, wanted: Currency) -> Result<i64, Fault>
+        ensures answer { result ≡ currency_sum self.now.account.name self.now.account.sheet.classes.now self.now.figures.now wanted }
+    {
+        let sum = self.sum_in(wanted);
+        if is_beyond(sum) {
+            return Err(
+                Fault::new(Refusal::TooLarge, Layer::Account)
+                    .with_account(self.account.name)
+                    .with_currency(wanted),
+            );
+        }
+        Ok(sum)
     }
-    sum
-}
 
-/// The sum of one currency, refused if it is too large.
-fn currency_sum(sheet: &Sheet, name: Name, figures: &[i64], wanted: Currency) -> Result<i64, Fault>
-    requires long { length figures.now ≡ length sheet.now.classes.now }
-    requires bounded { Bounded figures.now }
-    ensures answer { result ≡ currency_sum name sheet.now.classes.now figures.now wanted }
-{
-    let sum = sum_in(sheet, figures, wanted);
-    if is_beyond(sum) {
-        return Err(
-            Fault::new(Refusal::TooLarge, Layer::Account)
-                .with_account(name)
-                .with_currency(wanted),
-        );
+    /// The sums of the five currencies with their rates, up to the first refusal.
+    pub(crate) fn currency_sums(&self) -> Result<CurrencySums, Fault>
+        ensures answer { result_map_both (λ s. s.sums) (λ f. f) result ≡ sums_on self.now.account self.now.figures.now }
+        ensures rates { IfOk result (λ s. s.rates ≡ self.now.account.sheet.rates) }
+    {
+        let mut sums = [0; 5];
+        for currency in Currency::ALL {
+            sums[currency.number()] = self.currency_sum(currency)?;
+        }
+        let rates = self.account.sheet.rates();
+        Ok(CurrencySums { sums, rates })
     }
-    Ok(sum)
-}
-
-/// Fills the sums of the five currencies, in their order, up to the first refusal.
-pub(crate) fn currency_sums(
-    sheet: &Sheet,
-    name: Name,
-    figures: &[i64],
-    sums: &mut [i64; 5],
-) -> Result<(), Fault>
-    requires long { length figures.now ≡ length sheet.now.classes.now }
-    requires bounded { Bounded figures.now }
-    ensures answer { filled result sums.new ≡ sums_of name sheet.now.classes.now figures.now }
-{
-    for i in 0..5 {
-        sums[i] = currency_sum(sheet, name, figures, currency_of(i))?;
-    }
-    Ok(())
-}
-
-/// Sum × rate.
-fn value_line(sum: i64, rate: u32) -> i64
-    requires sum { unsigned_abs sum ≤ 100000000000 }
-    requires rate { rate ≤ 200000 }
-    ensures value { result ≡ sum *ℤ pos rate }
-    ensures bound { unsigned_abs result ≤ 20000000000000000 }
-{
-    sum * rate as i64
-}
-
-/// The value of currency sums.
-pub fn value_of(sums: &[i64; 5], rates: &[u32; 5]) -> i64
-    requires limits { Limits sums.now rates.now }
-    ensures value { result ≡ value_of sums.now rates.now }
-    ensures bound { unsigned_abs result ≤ 100000000000000000 }
-{
-    let mut value = 0i64;
-    for i in 0..5 {
-        value += value_line(sums[i], rates[i]);
-    }
-    value
 }

@@ -1,19 +1,14 @@
--- Counts that are set: to 0 from a place on (over any number of them, since at the numeral 256 the list is written out), or one of them.
-use Rattle.std.proofs.Common.{◌≡◌, ℕ, zero, suc, ◌+◌, ◌*◌, ◌<◌, ◌≤◌, List, [], ◌∷◌, length, get_or, set, replicate, ap, ⊎_elim, arith, length-set}
-use lib.ListN.{length-replicate}
+-- Counts that are set to 0 from a place on, over any number of them: at the numeral 256 the list would be written out.
+use Rattle.std.proofs.Common.{◌≡◌, ℕ, ◌+◌, ◌*◌, ◌<◌, ◌≤◌, List, length, get_or, replicate, ap, ⊎_elim, arith}
 use lib.Seq.{paste}
 use Rattle.std.proofs.lemmas.Bool.{cases_lt}
 use Rattle.std.proofs.lemmas.List.{places}
-use Rattle.std.proofs.lemmas.List.Edits.{length-paste}
 
 module _ (n : ℕ) (xs : List ℕ) (at : ℕ) (h : at + n ≤ length xs) where
-  pub cleared_length : length (paste xs at (replicate n 0) n) ≡ length xs
-  cleared_length = length-paste xs at (replicate n 0) n h (omega (arith, length-replicate {A = ℕ} n 0))
-
-  pub cleared_below : (k : ℕ) → k < at → get_or (paste xs at (replicate n 0) n) k 0 ≡ get_or xs k 0
+  cleared_below : (k : ℕ) → k < at → get_or (paste xs at (replicate n 0) n) k 0 ≡ get_or xs k 0
   cleared_below k l = grind (arith, places)
 
-  pub cleared_within : (k : ℕ) → at ≤ k → k < at + n → get_or (paste xs at (replicate n 0) n) k 0 ≡ 0
+  cleared_within : (k : ℕ) → at ≤ k → k < at + n → get_or (paste xs at (replicate n 0) n) k 0 ≡ 0
   cleared_within k l m = grind (arith, places)
 
 pub bounded_open : (a b : ℕ) (xs ys : List ℕ) → ys ≡ paste xs (a * 256) (replicate 256 0) 256 → b ≡ a + 1 → a * 256 + 256 ≤ length xs
@@ -24,19 +19,3 @@ bounded_open a b xs ys e f h was k l =
     (λ (m : k < a * 256). omega (arith, same, cleared_below 256 xs (a * 256) h k m, was k m))
     (λ (m : a * 256 ≤ k). omega (arith, same, cleared_within 256 xs (a * 256) h k m (omega arith)))
     (cases_lt k (a * 256))
-
-pub room_open : (a b : ℕ) (xs ys : List ℕ) → ys ≡ paste xs (a * 256) (replicate 256 0) 256 → b ≡ a + 1 → a * 256 + 256 ≤ length xs → b * 256 ≤ length ys
-room_open a b xs ys e f h = omega (arith, ap length e, cleared_length 256 xs (a * 256) h)
-
-pub room_set : (xs : List ℕ) (p v a : ℕ) → a * 256 ≤ length xs → a * 256 ≤ length (set xs p v)
-room_set xs p v a h = simp length-set h
-
-pub bounded_set : (xs : List ℕ) (p v a : ℕ) → v ≤ 100000 → ((k : ℕ) → k < a * 256 → get_or xs k 0 ≤ 100000) → (k : ℕ) → k < a * 256 → get_or (set xs p v) k 0 ≤ 100000
-bounded_set xs p v a h was k l = set_below xs p v k h (was k l)
-  where
-    set_below : (ys : List ℕ) (q w j : ℕ) → w ≤ 100000 → get_or ys j 0 ≤ 100000 → get_or (set ys q w) j 0 ≤ 100000
-    set_below [] q w j le e = e
-    set_below (y ∷ ys) zero w zero le e = le
-    set_below (y ∷ ys) zero w (suc j) le e = e
-    set_below (y ∷ ys) (suc q) w zero le e = e
-    set_below (y ∷ ys) (suc q) w (suc j) le e = set_below ys q w j le e

@@ -1,5 +1,5 @@
 -- What a use names, and its limits.
-use Rattle.std.specs.Prelude.{ℕ, Bool, cond, ◌&&◌, List, [], ℤ, is_some, Some, None, Option}
+use Rattle.std.specs.Prelude.{◌≡◌, ℕ, Bool, ◌&&◌, List, [], ℤ, is_some}
 use borrow.Author.Differences.{up}
 use Rattle.std.specs.Option.{unwrap_or}
 use Rattle.std.specs.Ordering.{is_eq}
@@ -10,7 +10,7 @@ use Rattle.terms.specs.declared.keys.SeriesKey.{SeriesKey}
 use Rattle.terms.specs.Keys.{between_limits, key_of}
 use Rattle.terms.specs.Names.{named, spelled}
 use Rattle.terms.specs.Order.{order}
-use Rattle.book.specs.declared.limits.Dealing.{Dealing}
+use Rattle.book.specs.declared.dealings.Dealing.{Dealing}
 
 -- the name that a text spells, and the key that is asked for
 abbrev pub name_of : List ℕ → Name
@@ -31,6 +31,8 @@ fits t k n = is_some (named t) && (is_some (key_of k) && contracts_fit n)
 abbrev pub same_account : List ℕ → List ℕ → Bool
 same_account a b = is_some (named a) && (is_some (named b) && is_eq (order (spelled (name_of a)) (spelled (name_of b))))
 
--- the dealing that is named, where it is within its limits
-abbrev pub dealing_of : List ℕ → AskedKey → ℤ → Option Dealing
-dealing_of t k n = cond (fits t k n) (Some (record { name = name_of t; key = asked k; contracts = up n })) None
+-- The dealing is the one that is named.
+pub record IsNamed (t : List ℕ) (k : AskedKey) (n : ℤ) (d : Dealing) : Type 0 where
+  pub name : d.name ≡ name_of t
+  pub key : d.key ≡ asked k
+  pub amount : d.contracts ≡ up n

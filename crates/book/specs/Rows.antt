@@ -1,5 +1,5 @@
 -- The accounts of a book.
-use Rattle.std.specs.Prelude.{ℕ, Bool, List, Some, None, Option, nat_lt}
+use Rattle.std.specs.Prelude.{ℕ, List, Some, None, Option}
 use Rattle.std.specs.List.{slice_get}
 use Rattle.terms.specs.declared.names.Name.{Name}
 use Rattle.terms.specs.Names.{spelled}
@@ -9,10 +9,6 @@ use Rattle.book.specs.declared.rows.AccountRow.{AccountRow}
 -- Accounts stand in ascending order of the bytes of their names.
 abbrev pub account_rank : AccountRow → List ℕ
 account_rank a = spelled a.name
-
--- Each account keeps its opening number, which is below the number of accounts.
-abbrev pub numbered_below : ℕ → AccountRow → Bool
-numbered_below n a = nat_lt a.slot n
 
 -- the row at a place that was found, and its opening number
 abbrev pub row_at : List AccountRow → Option ℕ → Option AccountRow

@@ -1,7 +1,7 @@
 -- What each use of a book does, and when it is refused.
 use Rattle.std.specs.Prelude.{◌≡◌, ℕ, ◌+◌, ◌-◌, ◌*◌, min, Bool, not, ◌&&◌, List, length, ℤ, is_some, Some, None, Option, nat_le, nat_lt}
 use borrow.Author.Differences.{up}
-use Rattle.std.specs.Option.{unwrap_or}
+use Rattle.std.specs.Option.{unwrap_or, option_or}
 use Rattle.terms.specs.declared.words.Basis.{Basis}
 use Rattle.terms.specs.declared.words.Side.{Side}
 use Rattle.terms.specs.declared.words.Leg.{Leg}
@@ -15,11 +15,12 @@ use Rattle.terms.specs.declared.keys.AskedKey.{AskedKey}
 use Rattle.terms.specs.declared.faults.Fault.{Fault}
 use Rattle.terms.specs.Faults.{refused, with_account, with_class, unless}
 use Rattle.terms.specs.Names.{named, spelled}
-use Rattle.register.specs.Rows.{sought, place, inserted}
-use Rattle.book.specs.Limits.{name_of, fits, same_account}
+use Rattle.std.specs.List.{insert}
+use Rattle.register.specs.Rows.{sought, place}
+use Rattle.book.specs.Limits.{name_of, asked}
 use Rattle.book.specs.Rows.{account_rank}
 use Rattle.book.specs.State.{State, held, at_count, cleared}
-use Rattle.book.specs.Found.{slot, listed, outside, twice, there, absent, source_absent}
+use Rattle.book.specs.Found.{slot, listed, outside, deal_fault, move_fault}
 
 -- An account is opened by a name, a basis and a side. Contracts are posted to one leg, closed out of both, or moved from one account to another.
 pub data Use : Type 0 where
@@ -30,10 +31,10 @@ pub data Use : Type 0 where
 
 -- the count that is named, and the book with another number there
 abbrev pub count : State → List ℕ → AskedKey → Leg → ℕ
-count s t k l = held s (unwrap_or (slot s t) 0) (unwrap_or (listed s k) 0) l
+count s t k l = held s (unwrap_or (slot s (name_of t)) 0) (unwrap_or (listed s (asked k)) 0) l
 
 abbrev pub with_count : State → List ℕ → AskedKey → Leg → ℕ → State
-with_count s t k l n = at_count s (unwrap_or (slot s t) 0) (unwrap_or (listed s k) 0) l n
+with_count s t k l n = at_count s (unwrap_or (slot s (name_of t)) 0) (unwrap_or (listed s (asked k)) 0) l n
 
 -- ---- when a use is refused
 -- 6: an account wants a row and 256 counts of the lent memory, and a book has at most 32
@@ -51,21 +52,15 @@ fault_of s (Opening t b d) =
     (unless (not (is_some (sought account_rank (spelled (name_of t)) s.accounts))) (with_account (name_of t) (refused Twice Book))
     (unless (roomy s) (refused Full Book) None))
 fault_of s (Posting t k l n) =
-    unless (fits t k n) outside
-    (unless (there s t k) (absent s t k)
-    (unless (nat_le (count s t k l + up n) 100000) (at_both Ceiling (name_of t) k.class) None))
+    option_or (deal_fault s t k n)
+    (unless (nat_le (count s t k l + up n) 100000) (at_both Ceiling (name_of t) k.class) None)
 fault_of s (Closing t k n) =
-    unless (fits t k n) outside
-    (unless (there s t k) (absent s t k)
-    (unless (nat_le (up n) (min (count s t k Long) (count s t k Short))) (at_both NotHeld (name_of t) k.class) None))
+    option_or (deal_fault s t k n)
+    (unless (nat_le (up n) (min (count s t k Long) (count s t k Short))) (at_both NotHeld (name_of t) k.class) None)
 fault_of s (Moving a b k l n) =
-    unless (not (same_account a b)) (twice a)
-    (unless (fits a k n) outside
-    (unless (is_some (named b)) outside
-    (unless (is_some (slot s a)) (source_absent s a k)
-    (unless (there s b k) (absent s b k)
+    option_or (move_fault s a b k n)
     (unless (nat_le (up n) (count s a k l)) (at_both NotHeld (name_of a) k.class)
-    (unless (nat_le (count s b k l + up n) 100000) (at_both Ceiling (name_of b) k.class) None))))))
+    (unless (nat_le (count s b k l + up n) 100000) (at_both Ceiling (name_of b) k.class) None))
 
 -- ---- what an accepted use leaves
 -- a new account stands in the order of names, with the next opening number and all counts 0
@@ -74,7 +69,7 @@ opened s n b d = record {
   rates = s.rates;
   classes = s.classes;
   series = s.series;
-  accounts = inserted s.accounts (place account_rank (spelled n) s.accounts) (record { name = n; basis = b; side = d; slot = length s.accounts });
+  accounts = insert s.accounts (place account_rank (spelled n) s.accounts) (record { name = n; basis = b; side = d; slot = length s.accounts });
   counts = cleared s.counts (length s.accounts);
   room = s.room;
 }

@@ -1,5 +1,6 @@
 -- What a book stands for.
-use Rattle.std.specs.Prelude.{length, take}
+use Rattle.std.specs.Prelude.{length}
+use Rattle.register.specs.Held.{held, lent}
 use Rattle.book.specs.declared.books.Book.{Book}
 use Rattle.book.specs.State.{State}
 
@@ -8,7 +9,7 @@ view b = record {
   rates = b.sheet.rates;
   classes = b.sheet.classes.now;
   series = b.sheet.series.now;
-  accounts = take b.accounts.len b.accounts.rows.now;
+  accounts = held b.accounts;
   counts = b.counts.slots.now;
-  room = length b.accounts.rows.now;
+  room = length (lent b.accounts);
 }

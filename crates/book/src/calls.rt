@@ -6,7 +6,7 @@ ghost use Rattle.book.specs.View.{view};
 ghost use Rattle.book.specs.Uses.{Opening, Posting, Closing, Moving, Step, at_both};
 
 use crate::books::Book;
-use crate::counts::{Counts, STRIDE, place_of};
+use crate::counts::{Counts, STRIDE};
 use crate::limits::CEILING;
 use crate::rows::AccountRow;
 use register::Register;
@@ -45,9 +45,7 @@ impl<'s, 'a> Book<'s, 'a> {
     pub fn open(&mut self, name: &[u8], basis: Basis, side: Side) -> Result<(), Fault>
         ensures step { Step (view self.old) (Opening name.now basis side) (refusal result) (view self.new) }
     {
-        let Some(name) = Name::of(name) else {
-            return Err(Fault::new(Refusal::Limit, Layer::Book));
-        };
+        let name = Name::try_from(name)?;
         if self.accounts.find(&name).is_some() {
             return Err(Fault::new(Refusal::Twice, Layer::Book).with_account(name));
         }
@@ -61,14 +59,14 @@ impl<'s, 'a> Book<'s, 'a> {
             side,
             slot,
         };
-        match self.accounts.insert(row, MOST_ACCOUNTS) {
-            Ok(_) => {
-                self.counts.clear_slot(slot);
-                Ok(())
-            }
-            Err(_) => Err(Fault::new(Refusal::Full, Layer::Book)),
-        }
+        self.accounts
+            .insert(row, MOST_ACCOUNTS)
+            .map_err(|_| Fault::new(Refusal::Full, Layer::Book))?;
+        self.counts.clear_slot(slot);
+        Ok(())
     }
+
+    // Name, key and contracts stay three parameters: a struct of them would be judged at once, and what is within its limits is one `Dealing`.
 
     /// Adds contracts to one count; refused 3 (a limit), 5 (account or series absent), 8 (above 100,000).
     pub fn post(
@@ -80,13 +78,11 @@ impl<'s, 'a> Book<'s, 'a> {
     ) -> Result<(), Fault>
         ensures step { Step (view self.old) (Posting name.now key leg contracts) (refusal result) (view self.new) }
     {
-        let spot = self.spot(name, &key, contracts)?;
-        let place = place_of(spot.slot, spot.series, leg);
-        let count = self.count_at(place);
-        if count + spot.contracts > CEILING {
+        let spot = self.spot(name, key, contracts)?;
+        if self.count_at(&spot, leg) + spot.contracts > CEILING {
             return Err(at_both(Refusal::Ceiling, spot.name, key.class));
         }
-        self.add_at(place, spot.contracts);
+        self.add_at(&spot, leg);
         Ok(())
     }
 
@@ -94,15 +90,14 @@ impl<'s, 'a> Book<'s, 'a> {
     pub fn close_out(&mut self, name: &[u8], key: AskedKey, contracts: i64) -> Result<(), Fault>
         ensures step { Step (view self.old) (Closing name.now key contracts) (refusal result) (view self.new) }
     {
-        let spot = self.spot(name, &key, contracts)?;
-        let long = place_of(spot.slot, spot.series, Leg::Long);
-        let short = place_of(spot.slot, spot.series, Leg::Short);
-        let least = self.count_at(long).min(self.count_at(short));
-        if least < spot.contracts {
+        let spot = self.spot(name, key, contracts)?;
+        let longs = self.count_at(&spot, Leg::Long);
+        let shorts = self.count_at(&spot, Leg::Short);
+        if longs.min(shorts) < spot.contracts {
             return Err(at_both(Refusal::NotHeld, spot.name, key.class));
         }
-        self.take_at(long, spot.contracts);
-        self.take_at(short, spot.contracts);
+        self.take_at(&spot, Leg::Long);
+        self.take_at(&spot, Leg::Short);
         Ok(())
     }
 
@@ -117,20 +112,15 @@ impl<'s, 'a> Book<'s, 'a> {
     ) -> Result<(), Fault>
         ensures step { Step (view self.old) (Moving from.now to.now key leg contracts) (refusal result) (view self.new) }
     {
-        let pair = self.pair(from, to, &key, contracts)?;
-        let source = place_of(pair.from.slot, pair.from.series, leg);
-        let target = place_of(pair.to.slot, pair.to.series, leg);
-        let contracts = pair.to.contracts;
-        let had = self.count_at(source);
-        if had < contracts {
+        let pair = self.pair(from, to, key, contracts)?;
+        if self.count_at(&pair.from, leg) < pair.from.contracts {
             return Err(at_both(Refusal::NotHeld, pair.from.name, key.class));
         }
-        let has = self.count_at(target);
-        if has + contracts > CEILING {
+        if self.count_at(&pair.to, leg) + pair.to.contracts > CEILING {
             return Err(at_both(Refusal::Ceiling, pair.to.name, key.class));
         }
-        self.take_at(source, contracts);
-        self.add_at(target, contracts);
+        self.take_at(&pair.from, leg);
+        self.add_at(&pair.to, leg);
         Ok(())
     }
 }

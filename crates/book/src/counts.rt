@@ -1,7 +1,6 @@
 //! The counts of all accounts, in lent memory: the longs of the account that was opened first, its shorts, then those of the next.
 //! Only the book calls in here, and what is required it knows of its own accounts.
-ghost use Rattle.std.specs.Prelude.{◌≡◌, ◌+◌, ◌*◌, ◌<◌, ◌≤◌, length, take, drop, replicate};
-ghost use Rattle.std.proofs.Math.Seq.{paste};
+ghost use Rattle.std.specs.Prelude.{◌≡◌, ◌+◌, ◌*◌, ◌<◌, ◌≤◌, length, take, drop};
 ghost use Rattle.book.specs.State.{cell, cleared};
 
 use terms::words::Leg;
@@ -12,6 +11,7 @@ pub const STRIDE: usize = 256;
 /// How many of them are of one leg.
 pub const LEG_STRIDE: usize = 128;
 
+/// One lent slice with places, since the book takes no memory of its own.
 #[derive(Drop)]
 pub struct Counts<'a> {
     pub(crate) slots: &'a mut [u32],
@@ -28,16 +28,6 @@ pub(crate) fn place_of(slot: usize, series: usize, leg: Leg) -> usize
     slot * STRIDE + leg.number() * LEG_STRIDE + series
 }
 
-/// Sets the counts from a place on, an account's worth, to 0.
-fn clear(counts: &mut [u32], base: usize)
-    requires room { base + 256 ≤ length counts.old }
-    ensures after { counts.new ≡ paste counts.old base (replicate 256 0) 256 }
-{
-    for i in 0..STRIDE {
-        counts[base + i] = 0;
-    }
-}
-
 impl Counts<'_> {
     /// How many counts the lent memory holds.
     pub(crate) fn len(&self) -> usize
@@ -52,7 +42,8 @@ impl Counts<'_> {
         requires room { slot * 256 + 256 ≤ length self.old.slots.now }
         ensures after { self.new.slots.now ≡ cleared self.old.slots.now slot }
     {
-        clear(self.slots, slot * STRIDE);
+        let base = slot * STRIDE;
+        self.slots[base..base + STRIDE].fill(0);
     }
 
     /// Counts that stand together.
@@ -60,7 +51,6 @@ impl Counts<'_> {
         requires room { from + count ≤ length self.now.slots.now }
         ensures value { result.now ≡ take count (drop from self.now.slots.now) }
     {
-        let slots = &*self.slots;
-        &slots[from..from + count]
+        &self.slots[from..from + count]
     }
 }

@@ -4,6 +4,7 @@
 pub mod books;
 pub mod calls;
 pub mod counts;
+mod dealings;
 pub mod limits;
 pub mod reads;
 pub mod rows;

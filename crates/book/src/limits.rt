@@ -1,34 +1,30 @@
 //! The limits of what a dealing names.
-ghost use Rattle.std.specs.Prelude.{◌≡◌, ◌≤◌, if◌then◌else◌, Some, None};
-ghost use Rattle.book.specs.declared.limits.Dealing.{Dealing};
-ghost use Rattle.book.specs.Limits.{dealing_of, name_of, same_account};
+ghost use Rattle.std.specs.Prelude.{◌≡◌, is_some, is_ok, IfSome, IfOk};
+ghost use Rattle.book.specs.Limits.{name_of, fits, same_account, IsNamed};
 
-use std::cmp::Ordering;
+use crate::dealings::Dealing;
 use terms::keys::{AskedKey, SeriesKey};
+use terms::limits::OutsideLimits;
 use terms::names::Name;
 
 /// How many contracts one use takes at most, and one count holds at most.
 pub const CEILING: u32 = 100_000;
 
-/// What a dealing names, each part within its limits.
-#[derive(Clone, Copy)]
-pub(crate) struct Dealing {
-    pub name: Name,
-    pub key: SeriesKey,
-    pub contracts: u32,
-}
-
 /// The dealing, if name, key and contracts are within their limits.
-pub(crate) fn within_limits(name: &[u8], key: &AskedKey, contracts: i64) -> Option<Dealing>
-    ensures value { result ≡ dealing_of name.now key.now contracts }
-    ensures bound { (d : Dealing) → result ≡ Some d → d.contracts ≤ 100000 }
+pub(crate) fn within_limits(
+    name: &[u8],
+    key: AskedKey,
+    contracts: i64,
+) -> Result<Dealing, OutsideLimits>
+    ensures fits { is_ok result ≡ fits name.now key contracts }
+    ensures named { IfOk result (IsNamed name.now key contracts) }
 {
-    let name = Name::of(name)?;
-    let key = key.within()?;
-    if contracts < 1 || contracts > CEILING as i64 {
-        return None;
+    let name = Name::try_from(name)?;
+    let key = SeriesKey::try_from(key)?;
+    if contracts < 1 || contracts > i64::from(CEILING) {
+        return Err(OutsideLimits);
     }
-    Some(Dealing {
+    Ok(Dealing {
         name,
         key,
         contracts: contracts as u32,
@@ -37,12 +33,10 @@ pub(crate) fn within_limits(name: &[u8], key: &AskedKey, contracts: i64) -> Opti
 
 /// The account that two texts both name, if they do.
 pub(crate) fn named_twice(first: &[u8], second: &[u8]) -> Option<Name>
-    ensures value { result ≡ (if same_account first.now second.now then Some (name_of first.now) else None) }
+    ensures same { is_some result ≡ same_account first.now second.now }
+    ensures named { IfSome result (λ x. x ≡ name_of first.now) }
 {
-    let a = Name::of(first)?;
-    let b = Name::of(second)?;
-    match a.compare(&b) {
-        Ordering::Equal => Some(a),
-        _ => None,
-    }
+    let a = Name::try_from(first).ok()?;
+    let b = Name::try_from(second).ok()?;
+    (a == b).then_some(a)
 }

@@ -1,6 +1,5 @@
 //! What is read of a book.
 ghost use Rattle.std.specs.Prelude.{◌≡◌, ℕ, ◌<◌, ◌≤◌, length, Some, slice_index};
-ghost use Rattle.terms.specs.declared.words.Leg.TheVariants.{Long, Short};
 ghost use Rattle.book.specs.declared.rows.AccountRow.{AccountRow};
 ghost use Rattle.book.specs.Reads.{numbered, counts_of};
 ghost use Rattle.book.specs.View.{view};
@@ -34,41 +33,21 @@ impl<'s, 'a> Book<'s, 'a> {
         ensures value { result ≡ numbered k (view self.now).accounts }
         ensures bound { (a : AccountRow) → result ≡ Some a → a.slot < length (view self.now).accounts }
     {
-        for i in 0..self.accounts.len() {
-            let row = self.accounts.get(i)?;
-            if row.slot == k {
-                return Some(row);
-            }
-        }
-        None
+        self.accounts
+            .as_slice()
+            .iter()
+            .find(|row| row.slot == k)
+            .copied()
     }
 
-    /// The long counts of an account beside the series of the sheet; none where no account has the opening number.
-    pub fn longs(&self, slot: usize) -> &[u32]
-        ensures value { result.now ≡ counts_of (view self.now) slot Long }
-        ensures all { slot < length (view self.now).accounts → length result.now ≡ length (view self.now).series }
-        ensures bound { (j : ℕ) → slice_index result.now j ≤ 100000 }
-    {
-        self.leg_counts(slot, Leg::Long)
-    }
-
-    /// The short counts likewise.
-    pub fn shorts(&self, slot: usize) -> &[u32]
-        ensures value { result.now ≡ counts_of (view self.now) slot Short }
-        ensures all { slot < length (view self.now).accounts → length result.now ≡ length (view self.now).series }
-        ensures bound { (j : ℕ) → slice_index result.now j ≤ 100000 }
-    {
-        self.leg_counts(slot, Leg::Short)
-    }
-
-    /// The counts of one leg.
-    fn leg_counts(&self, slot: usize, leg: Leg) -> &[u32]
+    /// The counts of one leg of an account, beside the series of the sheet; none where no account has the opening number.
+    pub fn counts(&self, slot: usize, leg: Leg) -> &[u32]
         ensures value { result.now ≡ counts_of (view self.now) slot leg }
         ensures all { slot < length (view self.now).accounts → length result.now ≡ length (view self.now).series }
         ensures bound { (j : ℕ) → slice_index result.now j ≤ 100000 }
     {
         if slot >= self.accounts.len() {
-            return self.counts.part(0, 0);
+            return &[];
         }
         self.counts
             .part(place_of(slot, 0, leg), self.sheet.series_count())

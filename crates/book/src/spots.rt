@@ -1,94 +1,45 @@
 //! Where a dealing falls: the account, the series and the number of contracts that it names.
-ghost use Rattle.std.specs.Prelude.{◌≡◌, ℕ, ◌+◌, ◌-◌, ◌*◌, ◌<◌, ◌≤◌, is_some, IfOk, if◌then◌else◌, Some, None, slice_index, slice_set};
+ghost use Rattle.std.specs.Prelude.{◌≡◌, ℕ, ◌+◌, ◌<◌, ◌≤◌, length, IfOk, Some, None};
+ghost use borrow.Author.Differences.{up};
+ghost use Rattle.terms.specs.Faults.{refusal, unless};
 ghost use Rattle.terms.specs.Keys.{figured};
 ghost use Rattle.register.specs.Rows.{sought};
 ghost use Rattle.sheet.specs.Rows.{series_rank};
 ghost use Rattle.book.specs.Rows.{slot_in};
-ghost use Rattle.book.specs.State.{at_counts};
 ghost use Rattle.book.specs.View.{view};
-ghost use Rattle.book.specs.Found.{not_there, settled, spot_of, pair_of, Settled, Within};
+ghost use Rattle.book.specs.Limits.{name_of, asked};
+ghost use Rattle.book.specs.Found.{not_there, there, absent, deal_fault, move_fault, Falls, at_spot, more, less};
 
 use crate::books::Book;
-use crate::limits::{Dealing, named_twice, within_limits};
+use crate::dealings::{Dealing, Pair, Spot};
+use crate::limits::{named_twice, within_limits};
 use terms::codes::Code;
 use terms::faults::{Fault, Place};
 use terms::keys::{AskedKey, SeriesKey};
+use terms::limits::OutsideLimits;
 use terms::names::Name;
-use terms::words::{Layer, Refusal};
-
-/// A dealing with its account's opening number and its series' place on the sheet.
-#[derive(Clone, Copy)]
-pub(crate) struct Spot {
-    pub name: Name,
-    pub slot: usize,
-    pub series: usize,
-    pub contracts: u32,
-}
-
-/// The two spots of a move.
-#[derive(Clone, Copy)]
-pub(crate) struct Pair {
-    pub from: Spot,
-    pub to: Spot,
-}
-
-/// What was sought, where it was not found.
-fn missing<T: Copy>(found: Option<usize>, sought: T) -> Option<T>
-    ensures value { result ≡ (if is_some found then None else Some sought) }
-{
-    match found {
-        Some(_) => None,
-        None => Some(sought),
-    }
-}
+use terms::words::{Layer, Leg, Refusal};
 
 /// The fault that names what is absent.
 fn unknown(account: Option<Name>, class: Option<Code>) -> Fault
     ensures value { result ≡ not_there account class }
 {
-    let place = Place {
-        line: None,
-        account,
-        class,
-        currency: None,
-        label: None,
-    };
+    let fault = Fault::new(Refusal::Unknown, Layer::Book);
     Fault {
-        refusal: Refusal::Unknown,
-        layer: Layer::Book,
-        place,
+        place: Place {
+            account,
+            class,
+            ..fault.place
+        },
+        ..fault
     }
-}
-
-/// The spot of a dealing, with what was found of its account and its series.
-fn settled(
-    deal: Dealing,
-    class: Code,
-    slot: Option<usize>,
-    series: Option<usize>,
-) -> Result<Spot, Fault>
-    ensures value { result ≡ settled deal class slot series }
-    ensures found { IfOk result (λ p. Settled deal slot series p) }
-{
-    let Some(account) = slot else {
-        return Err(unknown(Some(deal.name), missing(series, class)));
-    };
-    let Some(place) = series else {
-        return Err(unknown(None, Some(class)));
-    };
-    Ok(Spot {
-        name: deal.name,
-        slot: account,
-        series: place,
-        contracts: deal.contracts,
-    })
 }
 
 impl Book<'_, '_> {
     /// The opening number of the account with a name.
     pub(crate) fn slot_of(&self, name: &Name) -> Option<usize>
         ensures value { result ≡ slot_in (view self.now).accounts name.now }
-        ensures bound { (i : ℕ) → result ≡ Some i → i < self.now.accounts.len }
+        ensures bound { (i : ℕ) → result ≡ Some i → i < length (view self.now).accounts }
     {
         let place = self.accounts.find(name)?;
         let row = self.accounts.get(place)?;
@@ -103,20 +54,34 @@ impl Book<'_, '_> {
         self.sheet.find_series(key)
     }
 
-    /// The spot that a dealing names, or the first fault of its limits and of what is absent.
-    pub(crate) fn spot(&self, name: &[u8], key: &AskedKey, contracts: i64) -> Result<Spot, Fault>
-        ensures value { result ≡ spot_of (view self.now) name.now key.now contracts }
-        ensures within { IfOk result (λ p. Within self.now.accounts.len p) }
+    /// The spot of a dealing, or the fault that names what of it is absent.
+    fn found(&self, deal: Dealing) -> Result<Spot, Fault>
+        ensures fault { refusal result ≡ unless (there (view self.now) deal.name deal.key) (absent (view self.now) deal.name deal.key) None }
+        ensures spot { IfOk result (Falls (view self.now) deal.name deal.key deal.contracts) }
+        ensures open { IfOk result (λ p. p.slot < length (view self.now).accounts) }
     {
-        let Some(deal) = within_limits(name, key, contracts) else {
-            return Err(Fault::new(Refusal::Limit, Layer::Book));
-        };
-        settled(
-            deal,
-            key.class,
-            self.slot_of(&deal.name),
-            self.series_of(&deal.key),
-        )
+        match (self.slot_of(&deal.name), self.series_of(&deal.key)) {
+            (Some(slot), Some(series)) => Ok(Spot {
+                name: deal.name,
+                slot,
+                series,
+                contracts: deal.contracts,
+            }),
+            (slot, series) => Err(unknown(
+                slot.is_none().then_some(deal.name),
+                series.is_none().then_some(deal.key.class),
+            )),
+        }
+    }
+
+    /// The spot that a dealing names, or the first fault of its limits and of what is absent.
+    pub(crate) fn spot(&self, name: &[u8], key: AskedKey, contracts: i64) -> Result<Spot, Fault>
+        ensures fault { refusal result ≡ deal_fault (view self.now) name.now key contracts }
+        ensures spot { IfOk result (Falls (view self.now) (name_of name.now) (asked key) (up contracts)) }
+        ensures open { IfOk result (λ p. p.slot < length (view self.now).accounts) }
+    {
+        let deal = within_limits(name, key, contracts)?;
+        self.found(deal)
     }
 
     /// The two spots of a move, or the first fault of its limits and of what is absent.
@@ -124,73 +89,67 @@ impl Book<'_, '_> {
         &self,
         from: &[u8],
         to: &[u8],
-        key: &AskedKey,
+        key: AskedKey,
         contracts: i64,
     ) -> Result<Pair, Fault>
-        ensures value { result ≡ pair_of (view self.now) from.now to.now key.now contracts }
-        ensures source { IfOk result (λ p. Within self.now.accounts.len p.from) }
-        ensures target { IfOk result (λ p. Within self.now.accounts.len p.to) }
+        ensures fault { refusal result ≡ move_fault (view self.now) from.now to.now key contracts }
+        ensures source { IfOk result (λ p. Falls (view self.now) (name_of from.now) (asked key) (up contracts) p.from) }
+        ensures target { IfOk result (λ p. Falls (view self.now) (name_of to.now) (asked key) (up contracts) p.to) }
+        ensures source_open { IfOk result (λ p. p.from.slot < length (view self.now).accounts) }
+        ensures target_open { IfOk result (λ p. p.to.slot < length (view self.now).accounts) }
     {
         if let Some(name) = named_twice(from, to) {
-            return Err(Fault::new(Refusal::Limit, Layer::Book).with_account(name));
+            return Err(Fault::from(OutsideLimits).with_account(name));
         }
-        let Some(deal) = within_limits(from, key, contracts) else {
-            return Err(Fault::new(Refusal::Limit, Layer::Book));
-        };
-        let Some(name) = Name::of(to) else {
-            return Err(Fault::new(Refusal::Limit, Layer::Book));
-        };
-        let series = self.series_of(&deal.key);
+        let deal = within_limits(from, key, contracts)?;
+        let name = Name::try_from(to)?;
         let Some(slot) = self.slot_of(&deal.name) else {
-            return Err(unknown(Some(deal.name), missing(series, key.class)));
+            let series = self.series_of(&deal.key);
+            let class = series.is_none().then_some(deal.key.class);
+            return Err(unknown(Some(deal.name), class));
         };
-        let other = Dealing {
+        let to = self.found(Dealing {
             name,
             key: deal.key,
             contracts: deal.contracts,
+        })?;
+        let from = Spot {
+            name: deal.name,
+            slot,
+            series: to.series,
+            contracts: to.contracts,
         };
-        match settled(other, key.class, self.slot_of(&name), series) {
-            Ok(target) => Ok(Pair {
-                from: Spot {
-                    name: deal.name,
-                    slot,
-                    series: target.series,
-                    contracts: deal.contracts,
-                },
-                to: target,
-            }),
-            Err(fault) => Err(fault),
-        }
+        Ok(Pair { from, to })
     }
 
-    // The three below take a place of an account that is open, as a spot has it.
+    // The three below take a spot on an account of this book: no spot knows how many accounts there are.
 
-    /// A count.
-    pub(crate) fn count_at(&self, place: usize) -> u32
-        requires place { place < self.now.accounts.len * 256 }
-        ensures value { result ≡ slice_index (view self.now).counts place }
+    /// The count of a leg at a spot.
+    pub(crate) fn count_at(&self, spot: &Spot, leg: Leg) -> u32
+        requires open { spot.now.slot < length (view self.now).accounts }
+        ensures value { result ≡ at_spot (view self.now) spot.now leg }
         ensures bound { result ≤ 100000 }
     {
-        self.counts.slots[place]
+        self.counts.slots[spot.place(leg)]
     }
 
-    /// Adds contracts to a count.
-    pub(crate) fn add_at(&mut self, place: usize, contracts: u32)
-        requires place { place < self.old.accounts.len * 256 }
-        requires space { slice_index self.old.counts.slots.now place + contracts ≤ 100000 }
-        ensures after { view self.new ≡ at_counts (view self.old) (slice_set (view self.old).counts place (slice_index (view self.old).counts place + contracts)) }
-        ensures accounts { self.new.accounts.len ≡ self.old.accounts.len }
+    /// Adds the contracts to the count of a leg at their spot.
+    pub(crate) fn add_at(&mut self, spot: &Spot, leg: Leg)
+        requires open { spot.now.slot < length (view self.old).accounts }
+        requires space { at_spot (view self.old) spot.now leg + spot.now.contracts ≤ 100000 }
+        ensures after { view self.new ≡ more (view self.old) spot.now leg }
+        ensures accounts { length (view self.new).accounts ≡ length (view self.old).accounts }
     {
-        self.counts.slots[place] += contracts;
+        self.counts.slots[spot.place(leg)] += spot.contracts;
     }
 
-    /// Takes contracts from a count.
-    pub(crate) fn take_at(&mut self, place: usize, contracts: u32)
-        requires place { place < self.old.accounts.len * 256 }
-        requires held { contracts ≤ slice_index self.old.counts.slots.now place }
-        ensures after { view self.new ≡ at_counts (view self.old) (slice_set (view self.old).counts place (slice_index (view self.old).counts place - contracts)) }
-        ensures accounts { self.new.accounts.len ≡ self.old.accounts.len }
+    /// Takes the contracts from the count of a leg at their spot.
+    pub(crate) fn take_at(&mut self, spot: &Spot, leg: Leg)
+        requires open { spot.now.slot < length (view self.old).accounts }
+        requires held { spot.now.contracts ≤ at_spot (view self.old) spot.now leg }
+        ensures after { view self.new ≡ less (view self.old) spot.now leg }
+        ensures accounts { length (view self.new).accounts ≡ length (view self.old).accounts }
     {
-        self.counts.slots[place] -= contracts;
+        self.counts.slots[spot.place(leg)] -= spot.contracts;
     }
 }

@@ -5,7 +5,6 @@
 #![tactic(auto)]
 
 use closing::days::{Day, margin_day};
-use closing::telling::tell;
 use std::alloc::AllocError;
 use std::io;
 use std::io::Read;
@@ -13,88 +12,65 @@ use stream::reading::Stop;
 use terms::words::{Currency, Side};
 
 fn main(rt: HostRuntime) -> io::Result<()> {
-    let mut script = Vec::new(rt.alloc());
-    rt.stdin().read_to_end(&mut script)?;
-    let mut input = Vec::new(rt.alloc());
-    let mut cases = 0u32;
-    let mut from = 0;
-    let bytes = script.as_slice();
-    for i in 0..bytes.len() {
-        if bytes[i] == b'\n' {
-            let line = &bytes[from..i];
-            if line.starts_with(b"= ") {
-                if cases > 0 {
-                    judge(&rt, input.as_slice())?;
-                }
-                input.clear();
-                cases = cases.wrapping_add(1);
-                name(&rt, line)?;
-            } else {
-                add(&mut input, line)?;
-            }
-            from = i + 1;
-        }
-    }
-    judge(&rt, input.as_slice())
-}
-
-/// Prints the name of a case.
-fn name(rt: &HostRuntime, line: &[u8]) -> io::Result<()> {
-    if let Ok(text) = std::str::from_utf8(line) {
-        println!(rt; "{text}")?;
+    let mut script = String::new(rt.alloc());
+    rt.stdin().read_to_string(&mut script)?;
+    let lines: Vec<&str> = script.split('\n').collect(rt.alloc())?;
+    for case in lines.chunk_by(|_, next| !next.starts_with("= ")) {
+        run(&rt, case)?;
     }
     Ok(())
+}
+
+/// Prints the name of a case and the verdict on its input.
+fn run(rt: &HostRuntime, case: &[&str]) -> io::Result<()> {
+    let Some((name, lines)) = case.split_first() else {
+        return Ok(());
+    };
+    println!(rt; "{name}")?;
+    let mut input = Vec::new(rt.alloc());
+    for line in lines {
+        add(&mut input, line)?;
+    }
+    judge(rt, input.as_slice())
 }
 
 /// Adds what a line of the script stands for.
-fn add(input: &mut Vec<u8>, line: &[u8]) -> Result<(), AllocError> {
-    if line.starts_with(b"|") {
-        input.extend_from_slice(&line[1..])?;
-        input.push(b'\n')?;
-    } else if line.starts_with(b"+") {
-        input.extend_from_slice(&line[1..])?;
-    } else if line.starts_with(b"*") && line.len() > 9 {
-        for _ in 0..times(&line[1..8]) {
-            input.extend_from_slice(&line[9..])?;
-            input.push(b'\n')?;
-        }
+fn add(input: &mut Vec<u8>, line: &str) -> Result<(), AllocError> {
+    if let Some(text) = line.strip_prefix('|') {
+        add_lines(input, text, 1)
+    } else if let Some(text) = line.strip_prefix('+') {
+        input.extend_from_slice(text.as_bytes())
+    } else if let Some((times, text)) = line
+        .strip_prefix('*')
+        .and_then(|line| line.split_once('|'))
+    {
+        add_lines(input, text, times.parse::<u32>().unwrap_or(0))
+    } else {
+        Ok(())
     }
-    Ok(())
 }
 
-/// The number that seven digits write.
-fn times(digits: &[u8]) -> u32 {
-    let mut n = 0u32;
-    for d in digits {
-        n = n.wrapping_mul(10).wrapping_add(d.wrapping_sub(b'0') as u32);
+/// Adds a line so many times.
+fn add_lines(input: &mut Vec<u8>, text: &str, times: u32) -> Result<(), AllocError> {
+    for _ in 0..times {
+        input.extend_from_slice(text.as_bytes())?;
+        input.push(b'\n')?;
     }
-    n
+    Ok(())
 }
 
 /// Prints what the program would say to an input.
 fn judge(rt: &HostRuntime, input: &[u8]) -> io::Result<()> {
-    match margin(rt, input) {
-        Ok(()) => {}
-        Err(Stop::Refused(fault)) => tell(&mut rt.stdout(), fault)?,
-        Err(Stop::Unread) => println!(rt; "not read")?,
-        Err(Stop::Unwritten) => println!(rt; "not written")?,
-    }
-    Ok(())
-}
-
-/// Margins an input and prints its figures.
-fn margin(rt: &HostRuntime, input: &[u8]) -> Result<(), Stop> {
-    let mut rest = input;
-    let day = margin_day(&mut rest)?;
-    match accepted(rt, &day) {
-        Ok(()) => Ok(()),
-        Err(_) => Err(Stop::Unwritten),
+    match margin_day(input) {
+        Ok(day) => accept(rt, &day),
+        Err(Stop::Refused(fault)) => println!(rt; "{fault}"),
+        Err(_) => println!(rt; "not read"),
     }
 }
 
 /// Prints how many accounts there are, and the sides' requirements.
-fn accepted(rt: &HostRuntime, day: &Day) -> io::Result<()> {
-    let accounts = day.statements.count;
+fn accept(rt: &HostRuntime, day: &Day) -> io::Result<()> {
+    let accounts = day.statements.as_slice().len();
     let client = day.statements.requirement(Side::Client, Currency::Hkd);
     let rmb = day.statements.requirement(Side::Client, Currency::Rmb);
     let house = day.statements.requirement(Side::House, Currency::Hkd);

@@ -10,6 +10,10 @@ use Rattle.terms.specs.declared.words.Refusal.TheVariants.{Limit, TooLarge}
 abbrev pub outside : Label → Fault
 outside l = with_label l (refused Limit Charge)
 
+-- a position that fits passes its charge's test
+abbrev pub judged : Bool → Label → Result (Unit {0}) Fault
+judged fit refuses = cond fit (Ok tt) (Err (outside refuses))
+
 -- a figure beyond 10^11 is refused by row 9, with the label of the charge
 abbrev pub too_large : Label → Fault
 too_large l = with_label l (refused TooLarge Charge)

@@ -1,16 +1,14 @@
--- Each charge is lawful: the three of their own by their figures, a composite by its parts. And what holds of each by itself.
+-- Each charge is lawful: the three of their own by their figures, a composite by its parts.
 use Rattle.std.specs.Prelude.{max}
-use Rattle.std.proofs.Common.{inl, inr, ⊎_elim, arith, zero-mul}
-use Rattle.std.proofs.lemmas.Bool.{cases_lt}
+use Rattle.std.proofs.Common.{arith, zero-mul}
 use Rattle.terms.specs.declared.words.Kind.TheVariants.{Call, Put}
 use Rattle.charge.specs.Positions.{joined}
 use Rattle.charge.specs.Minimum.{shorts}
-use Rattle.charge.specs.Meanings.{Meaning, Lawful, scanning, spreading, minimum, summed, greater, prime_meaning}
-use Rattle.charge.specs.Laws.{ScanningLaw, SpreadLaw, GreaterLaw}
-use Rattle.charge.specs.Rates.{rated}
-use Rattle.charge.specs.Losses.{worst_zero, worst_join, worst_covers, worst_reached}
+use Rattle.charge.specs.Meanings.{Meaning, Lawful, scanning, spreading, minimum, summed, greater}
+use Rattle.charge.specs.Sizes.{rated}
+use Rattle.charge.specs.Losses.{worst_zero, worst_join}
 use Rattle.charge.specs.Shorts.{shorts_zero, shorts_join}
-use Rattle.charge.specs.Months.{spread_zero, spread_join, spread_one}
+use Rattle.charge.specs.Months.{spread_zero, spread_join}
 
 pub scanning_lawful : Lawful scanning
 scanning_lawful = record {
@@ -44,15 +42,3 @@ greater_lawful a b v w = record {
   zero = λ t n. omega (arith, v.zero t n, w.zero t n);
   join = λ t p q e. omega (arith, v.join t p q e, w.join t p q e);
 }
-
-pub prime_lawful : Lawful prime_meaning
-prime_lawful = greater_lawful (summed scanning spreading) minimum (summed_lawful scanning spreading scanning_lawful spreading_lawful) minimum_lawful
-
-pub scanning_law : ScanningLaw
-scanning_law t p = (λ k h. worst_covers 16 t.rows p k h, worst_reached 16 t.rows p)
-
-pub spread_law : SpreadLaw
-spread_law t m h p = spread_one t.spread_rate m t.rows h p
-
-pub greater_law : GreaterLaw
-greater_law a b t p = (omega arith, omega arith, ⊎_elim (λ l. inr (omega arith)) (λ l. inl (omega arith)) (cases_lt (a.charged t p) (b.charged t p)))

@@ -8,7 +8,6 @@ pub mod Replies
 pub mod Laws
 pub mod Prime
 pub mod Lawful
-pub mod Rates
 pub mod Losses
 pub mod Sizes
 pub mod Dots

@@ -1,21 +1,16 @@
 -- The minimum charge: short counts at the minimum rate.
-use Rattle.std.specs.Prelude.{ℕ, ◌+◌, ◌*◌, max, Bool, true, false, cond, List, [], ◌∷◌, ℤ}
+use Rattle.std.specs.Prelude.{ℕ, ◌+◌, ◌*◌, max, cond, List, [], ◌∷◌, ℤ, ◌==◌}
 use borrow.Author.Differences.{down}
+use Rattle.terms.specs.Words.{kind_number}
 use Rattle.terms.specs.declared.words.Kind.{Kind}
 use Rattle.terms.specs.declared.words.Kind.TheVariants.{Call, Put}
 use Rattle.sheet.specs.declared.rows.Series.{Series}
-
-abbrev pub same_kind : Kind → Kind → Bool
-same_kind Call Call = true
-same_kind Call Put = false
-same_kind Put Call = false
-same_kind Put Put = true
 
 -- the short counts of a kind, added without sign
 abbrev pub shorts : Kind → List Series → List ℤ → ℕ
 shorts k [] p = 0
 shorts k (r ∷ rows) [] = 0
-shorts k (r ∷ rows) (n ∷ p) = cond (same_kind r.key.kind k) (down n) 0 + shorts k rows p
+shorts k (r ∷ rows) (n ∷ p) = cond (kind_number r.key.kind == kind_number k) (down n) 0 + shorts k rows p
 
 -- amount: the greater of the calls' and the puts' sum × minimum rate
 abbrev pub least : ℕ → List Series → List ℤ → ℕ

@@ -1,41 +1,22 @@
--- The two totals row by row: joined, neither grows beyond the two, and their difference is the sum of the differences; of one month, one of them is 0.
-use Rattle.std.specs.Prelude.{◌≡◌, ℕ, zero, suc, ◌+◌, ◌-◌, ◌≤◌, min, max, Bool, true, false, cond, ◌||◌, List, [], ◌∷◌, map, length, take, replicate, ℤ, pos, ◌+ℤ◌, ◌-ℤ◌, Option, ◌==◌, ◌≢◌}
+-- The two totals row by row: joined, neither grows beyond the two, and their difference is the sum of the differences.
+use Rattle.std.specs.Prelude.{◌≡◌, ℕ, zero, suc, ◌+◌, ◌-◌, ◌≤◌, min, max, Bool, true, false, cond, List, map, length, take, replicate, ℤ, pos, ◌+ℤ◌, ◌-ℤ◌, Option}
 use Rattle.std.proofs.Math.Path.{refl}
-use Rattle.std.proofs.Common.{ap, ⊎_elim, zero-mul, add-one}
+use Rattle.std.proofs.Common.{⊎_elim, zero-mul}
 use native.Mathlib.Omega.{arith}
 use borrow.Author.Differences.{up, down, ints}
-use Rattle.std.proofs.lemmas.Bool.{cond-true, cond-false, eq-eqb, ne_eqb}
 use Rattle.std.specs.Option.{unwrap_or}
 use Rattle.sheet.specs.declared.rows.Series.{Series}
 use Rattle.charge.specs.Positions.{joined}
 use Rattle.charge.specs.Spread.{month_delta_of, month_delta, seen, month_at, long, short, lean, spread, spread_allowance}
-use Rattle.charge.specs.Laws.{OfMonth}
-use Rattle.charge.specs.Sizes.{one_part, up_add}
+use Rattle.charge.specs.Sizes.{one_part, up_add, rated}
 use Rattle.charge.specs.Dots.{dot_zero, dot_joined}
-use Rattle.charge.specs.Rates.{rated}
 
--- one more row: a month seen before adds nothing
-module _ (rows : List Series) (p : List ℤ) (i m : ℕ) (at : month_at i rows ≡ m) where
-  pub sides_skip : seen m (take i rows) ≡ true → (long (i + 1) rows p ≡ long i rows p) × (short (i + 1) rows p ≡ short i rows p)
-  unfolding long short
-  sides_skip e = (rw (add-one, at, e) (omega arith), rw (add-one, at, e) (omega arith))
-
-  pub sides_more : seen m (take i rows) ≡ false → (long (i + 1) rows p ≡ long i rows p + up (month_delta m rows p)) × (short (i + 1) rows p ≡ short i rows p + down (month_delta m rows p))
-  unfolding long short
-  sides_more e = (rw (add-one, at, e), rw (add-one, at, e))
-
--- one row of that: with a month seen before, or with a new one
+-- one more row: with a month told before, or with a new one
 sides_step : (b : Bool) (J P Q : ℤ) (lj sj lp sp lq sq : ℕ) → J ≡ P +ℤ Q → lj ≤ lp + lq → lj + sp + sq ≡ sj + lp + lq →
     (lj + cond b 0 (up J) ≤ (lp + cond b 0 (up P)) + (lq + cond b 0 (up Q)))
     × ((lj + cond b 0 (up J)) + (sp + cond b 0 (down P)) + (sq + cond b 0 (down Q)) ≡ (sj + cond b 0 (down J)) + (lp + cond b 0 (up P)) + (lq + cond b 0 (up Q)))
 sides_step true J P Q lj sj lp sp lq sq e h k = (omega arith, omega arith)
 sides_step false J P Q lj sj lp sp lq sq e h k = let u = up_add P Q in (omega (arith, ints), omega (arith, ints))
-
-pub month_yes : (m : ℕ) (r : Series) → r.key.month ≡ m → month_delta_of m r ≡ r.delta
-month_yes m r e = cond-true (r.key.month == m) r.delta (pos 0) (eq-eqb r.key.month m e)
-
-pub month_no : (m : ℕ) (r : Series) → (r.key.month ≢ m) → month_delta_of m r ≡ pos 0
-month_no m r e = cond-false (r.key.month == m) r.delta (pos 0) (ne_eqb r.key.month m e)
 
 module _ (rows : List Series) where
   pub month_zero : (m n : ℕ) → month_delta m rows (replicate n (pos 0)) ≡ pos 0
@@ -83,34 +64,3 @@ spread_join rate rows p q e =
     let h = sides_join rows n p q e in
     let law = sides_law (long n rows (joined p q)) (short n rows (joined p q)) (long n rows p) (short n rows p) (long n rows q) (short n rows q) h.0 h.1 in
     rated _ _ _ _ (unwrap_or rate 0) (omega (arith, law, lean_parts (long n rows p) (short n rows p), lean_parts (long n rows q) (short n rows q)))
-
--- a class of one month: its first series tells the month, no later one does
-sides_none : (rows : List Series) (p : List ℤ) → (long 0 rows p ≡ 0) × (short 0 rows p ≡ 0)
-unfolding long short
-sides_none rows p = (refl, refl)
-
-module _ (m : ℕ) (r : Series) (rest : List Series) (h : OfMonth m (r ∷ rest)) (p : List ℤ) where
-  told : (i : ℕ) → seen m (take (suc i) (r ∷ rest)) ≡ true
-  told i = ap (λ b. b || seen m (take i rest)) (eq-eqb r.key.month m (h 0 (omega arith)))
-
-  sides_one : (i : ℕ) → i ≤ length (r ∷ rest) → (long i (r ∷ rest) p ≤ up (month_delta m (r ∷ rest) p)) × (short i (r ∷ rest) p ≤ down (month_delta m (r ∷ rest) p))
-  sides_one zero l = let n = sides_none (r ∷ rest) p in (omega arith, omega arith)
-  sides_one (suc zero) l =
-      let n = sides_none (r ∷ rest) p in
-      let s = sides_more (r ∷ rest) p 0 m (h 0 (omega arith)) refl in
-      (omega arith, omega arith)
-  sides_one (suc (suc i)) l =
-      let n = sides_one (suc i) (omega arith) in
-      let s = rw add-one at (sides_skip (r ∷ rest) p (suc i) m (h (suc i) (omega arith)) (told i)) in
-      (omega arith, omega arith)
-
-pub spread_one : (rate : Option ℕ) (m : ℕ) (rows : List Series) → OfMonth m rows → (p : List ℤ) → spread rate rows p ≡ 0
-spread_one rate m [] h p =
-    let n = sides_none [] p in
-    let e : min (long 0 [] p) (short 0 [] p) ≡ 0 = omega arith in
-    rw e (zero-mul (unwrap_or rate 0))
-spread_one rate m (r ∷ rest) h p =
-    let rows = r ∷ rest in
-    let s = sides_one m r rest h p (length rows) (omega arith) in
-    let e : min (long (length rows) rows p) (short (length rows) rows p) ≡ 0 = ⊎_elim (λ z. omega arith) (λ z. omega arith) (one_part (month_delta m rows p)) in
-    rw e (zero-mul (unwrap_or rate 0))

@@ -1,5 +1,6 @@
 -- A position: signed contract counts for the series of one class, in their order, shorts negative.
-use Rattle.std.specs.Prelude.{ℕ, Bool, true, ◌&&◌, List, [], ◌∷◌, length, ℤ, pos, ◌+ℤ◌, ◌*ℤ◌, ◌==◌, nat_le, unsigned_abs}
+use Rattle.std.specs.Prelude.{ℕ, Bool, ◌&&◌, List, [], ◌∷◌, length, ℤ, pos, ◌+ℤ◌, ◌*ℤ◌, ◌==◌, nat_le, unsigned_abs}
+use Rattle.std.specs.List.{list_all}
 
 -- two positions joined: the counts added series by series
 abbrev pub joined : List ℤ → List ℤ → List ℤ
@@ -9,8 +10,7 @@ joined (m ∷ p) (n ∷ q) = (m +ℤ n) ∷ joined p q
 
 -- each count is at most 3,200,000 in size
 abbrev pub counts_fit : List ℤ → Bool
-counts_fit [] = true
-counts_fit (n ∷ p) = nat_le (unsigned_abs n) 3200000 && counts_fit p
+counts_fit p = list_all (λ n. nat_le (unsigned_abs n) 3200000) p
 
 -- a position of a class of n series: one count for each, none beyond its limit
 abbrev pub fits : ℕ → List ℤ → Bool

@@ -1,6 +1,7 @@
 -- The spread charge: what long and short months have in common, at the spread rate.
-use Rattle.std.specs.Prelude.{ℕ, zero, suc, ◌+◌, ◌*◌, min, max, Bool, false, cond, ◌||◌, List, [], ◌∷◌, map, length, take, ℤ, pos, ◌-ℤ◌, Option, ◌==◌, slice_index}
+use Rattle.std.specs.Prelude.{ℕ, zero, suc, ◌+◌, ◌*◌, min, max, Bool, cond, List, map, length, take, ℤ, pos, ◌-ℤ◌, Option, ◌==◌, slice_index}
 use borrow.Author.Differences.{up, down}
+use Rattle.std.specs.List.{list_any}
 use Rattle.std.specs.Option.{unwrap_or}
 use Rattle.sheet.specs.declared.rows.Series.{Series}
 use Rattle.charge.specs.Positions.{dot}
@@ -20,8 +21,7 @@ abbrev pub month_at : ℕ → List Series → ℕ
 month_at i rows = slice_index (map month_of rows) i
 
 abbrev pub seen : ℕ → List Series → Bool
-seen m [] = false
-seen m (r ∷ rows) = r.key.month == m || seen m rows
+seen m rows = list_any (λ r. r.key.month == m) rows
 
 -- the long total adds the positive month deltas: here those of the months of the first i series
 unfoldable pub long : ℕ → List Series → List ℤ → ℕ

@@ -15,6 +15,8 @@ use sheet::classes::Class;
 use terms::faults::Fault;
 use terms::words::Label;
 
+// The bodies of the sum and the greater differ by `+`, `max` and the label alone: one function for both, over two answers and a closure, is longer than they are.
+
 /// The sum of two charges.
 #[derive(Clone, Copy)]
 pub struct Sum<A, B>(pub A, pub B);
@@ -25,14 +27,14 @@ impl<A: Charge, B: Charge> Charge for Sum<A, B> {
     ghost lawful = { λ s. summed_lawful (A.Charge.meaning s.0) (B.Charge.meaning s.1) (A.Charge.lawful s.0) (B.Charge.lawful s.1) };
 
     fn amount(&self, class: &Class, position: &[i64]) -> Result<i64, Fault> {
-        let first = self.0.amount(class, position)?;
-        let second = self.1.amount(class, position)?;
+        let first = self.0.amount(class, position)? as u64;
+        let second = self.1.amount(class, position)? as u64;
         limited(first + second, Label::Sum)
     }
 
     fn allowance(&self, class: &Class, one: &[i64], other: &[i64]) -> Result<i64, Fault> {
-        let first_allowance = self.0.allowance(class, one, other)?;
-        let second_allowance = self.1.allowance(class, one, other)?;
+        let first_allowance = self.0.allowance(class, one, other)? as u64;
+        let second_allowance = self.1.allowance(class, one, other)? as u64;
         limited(first_allowance + second_allowance, Label::Sum)
     }
 }
@@ -47,14 +49,14 @@ impl<A: Charge, B: Charge> Charge for Greater<A, B> {
     ghost lawful = { λ s. greater_lawful (A.Charge.meaning s.0) (B.Charge.meaning s.1) (A.Charge.lawful s.0) (B.Charge.lawful s.1) };
 
     fn amount(&self, class: &Class, position: &[i64]) -> Result<i64, Fault> {
-        let left = self.0.amount(class, position)?;
-        let right = self.1.amount(class, position)?;
+        let left = self.0.amount(class, position)? as u64;
+        let right = self.1.amount(class, position)? as u64;
         limited(left.max(right), Label::Greater)
     }
 
     fn allowance(&self, class: &Class, one: &[i64], other: &[i64]) -> Result<i64, Fault> {
-        let left_allowance = self.0.allowance(class, one, other)?;
-        let right_allowance = self.1.allowance(class, one, other)?;
+        let left_allowance = self.0.allowance(class, one, other)? as u64;
+        let right_allowance = self.1.allowance(class, one, other)? as u64;
         limited(left_allowance.max(right_allowance), Label::Greater)
     }
 }

@@ -1,55 +1,63 @@
-//! Whether a position fits its class, and whether a figure keeps its limit.
-ghost use Rattle.std.specs.Prelude.{◌≡◌, ◌&&◌, length, pos, ◌≤ℤ◌};
-ghost use borrow.Author.Differences.{up};
+//! A position of a class, and the limit of a figure.
+ghost use Rattle.std.specs.Prelude.{◌≡◌, ◌&&◌, true, length};
 ghost use Rattle.charge.specs.Positions.{fits};
-ghost use Rattle.charge.specs.Answers.{limited as limitedTo, outside as outsideOf};
+ghost use Rattle.charge.specs.Answers.{answer, judged, limited};
 
 use sheet::classes::Class;
 use terms::faults::Fault;
 use terms::words::{Label, Layer, Refusal};
 
 /// The greatest size of a count.
-const COUNT_LIMIT: i64 = 3_200_000;
+const COUNT_LIMIT: u64 = 3_200_000;
 
 /// The greatest figure, in cents.
-const FIGURE_LIMIT: i64 = 100_000_000_000;
+const FIGURE_LIMIT: u64 = 100_000_000_000;
 
-/// The fault of a position outside its limits, with the label of the charge that refuses it.
-pub fn outside(label: Label) -> Fault
-    ensures value { result ≡ outsideOf label }
-{
-    Fault::new(Refusal::Limit, Layer::Charge).with_label(label)
+/// A position that fits its class: a count for each series, and none beyond its limit.
+#[derive(Clone, Copy)]
+pub struct Position<'a> {
+    pub class: &'a Class<'a>,
+    pub counts: &'a [i64],
+    ghost fits_class: { fits (length class.now.series.now) counts.now ≡ true },
 }
 
-/// Whether the position has a count for each series of the class, and none beyond its limit.
-pub fn fitting(class: &Class, position: &[i64]) -> bool
-    ensures value { result ≡ fits (length class.now.series.now) position.now }
+/// Whether the counts are a position of the class.
+pub fn fitting(class: &Class, counts: &[i64]) -> bool
+    ensures value { result ≡ fits (length class.now.series.now) counts.now }
 {
-    if position.len() != class.series.len() {
-        return false;
+    counts.len() == class.series.len()
+        && counts
+            .iter()
+            .all(|count| count.unsigned_abs() <= COUNT_LIMIT)
+}
+
+/// Refuses counts that are no position of the class, with the label of the charge that refuses them.
+pub fn judge(class: &Class, counts: &[i64], label: Label) -> Result<(), Fault>
+    ensures answer { result ≡ judged (fits (length class.now.series.now) counts.now) label }
+{
+    if !fitting(class, counts) {
+        return Err(Fault::new(Refusal::Limit, Layer::Charge).with_label(label));
     }
-    for count in position {
-        if *count > COUNT_LIMIT || *count < -COUNT_LIMIT {
-            return false;
-        }
-    }
-    true
+    Ok(())
 }
 
-/// Whether both positions fit.
-pub fn both_fitting(class: &Class, one: &[i64], other: &[i64]) -> bool
-    ensures value { result ≡ (fits (length class.now.series.now) one.now && fits (length class.now.series.now) other.now) }
+/// The allowance of a charge that never costs more when two positions are joined.
+#[tactic(auto, unfolding(crate::specs::Answers::limited))]
+pub fn no_allowance(class: &Class, one: &[i64], other: &[i64], label: Label) -> Result<i64, Fault>
+    ensures answer { result ≡ answer (fits (length class.now.series.now) one.now && fits (length class.now.series.now) other.now) 0 label label }
 {
-    fitting(class, one) && fitting(class, other)
+    judge(class, one, label)?;
+    judge(class, other, label)?;
+    Ok(0)
 }
 
-/// The figure, or the fault where it is too large. No charge hands in less than 0.
-pub(crate) fn limited(figure: i64, label: Label) -> Result<i64, Fault>
-    requires { pos 0 ≤ℤ figure }
-    ensures answer { result ≡ limitedTo (up figure) label }
+/// The figure, or the fault where it is too large.
+#[tactic(auto, unfolding(crate::specs::Answers::limited))]
+pub fn limited(figure: u64, label: Label) -> Result<i64, Fault>
+    ensures answer { result ≡ limited figure label }
 {
     if figure > FIGURE_LIMIT {
         return Err(Fault::new(Refusal::TooLarge, Layer::Charge).with_label(label));
     }
-    Ok(figure)
+    Ok(figure as i64)
 }

@@ -1,28 +1,28 @@
 //! The scanning charge: the largest of sixteen losses.
-ghost use Rattle.std.specs.Prelude.{◌≡◌, ◌<◌, ◌≤◌, true, length, unsigned_abs};
-ghost use Rattle.charge.specs.Positions.{fits};
+ghost use Rattle.std.specs.Prelude.{◌≡◌, ◌<◌};
 ghost use Rattle.charge.specs.Scanning.{loss};
 ghost use Rattle.charge.specs.Meanings.{scanning};
 ghost use Rattle.charge.specs.Lawful.{scanning_lawful};
 
 use crate::charges::Charge;
-use crate::positions::{both_fitting, fitting, limited, outside};
+use crate::positions::{Position, judge, limited, no_allowance};
 use sheet::classes::Class;
 use terms::faults::Fault;
 use terms::words::Label;
 
-/// The loss of one scenario.
-fn loss_of(class: &Class, position: &[i64], k: usize) -> i64
-    requires fit { fits (length class.now.series.now) position.now ≡ true }
-    requires within { k < 16 }
-    ensures value { result ≡ loss k class.now.series.now position.now }
-    ensures bound { unsigned_abs result ≤ 4096000000000000 }
-{
-    let mut sum = 0;
-    for i in 0..class.series.len() {
-        sum += position[i] * class.series[i].array[k];
+impl Position<'_> {
+    /// The loss of one scenario.
+    fn loss(&self, k: usize) -> i64
+        requires { k < 16 }
+        ensures value { result ≡ loss k self.now.class.now.series.now self.now.counts.now }
+    {
+        let mut sum = 0;
+        // By index, as asked for: over the series, reading the matching counts.
+        for i in 0..self.class.series.len() {
+            sum += self.counts[i] * self.class.series[i].array[k];
+        }
+        sum
     }
-    sum
 }
 
 #[derive(Clone, Copy)]
@@ -33,24 +33,14 @@ impl Charge for Scanning {
 
     ghost lawful = { λ s. scanning_lawful };
 
-    fn amount(&self, class: &Class, position: &[i64]) -> Result<i64, Fault> {
-        if !fitting(class, position) {
-            return Err(outside(Label::Scanning));
-        }
-        let mut worst = 0;
-        for k in 0..16 {
-            let loss = loss_of(class, position, k);
-            if loss > worst {
-                worst = loss;
-            }
-        }
-        limited(worst, Label::Scanning)
+    fn amount(&self, class: &Class, counts: &[i64]) -> Result<i64, Fault> {
+        judge(class, counts, Label::Scanning)?;
+        let position = Position { class, counts };
+        let worst = (0..16).map(|k| position.loss(k)).fold(0, i64::max);
+        limited(worst as u64, Label::Scanning)
     }
 
     fn allowance(&self, class: &Class, one: &[i64], other: &[i64]) -> Result<i64, Fault> {
-        if !both_fitting(class, one, other) {
-            return Err(outside(Label::Scanning));
-        }
-        Ok(0)
+        no_allowance(class, one, other, Label::Scanning)
     }
 }

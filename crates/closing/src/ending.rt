@@ -1,34 +1,30 @@
 //! How a program over standard input ends: with the report, or with the fault's line and status 1.
 use crate::days::margin_day;
 use crate::printing::{print_fault, print_report};
-use crate::telling::tell;
+use std::process::ExitCode;
 use stream::reading::Stop;
 
-/// The program ends with status 1, and standard error has said why.
-#[derive(Clone, Copy)]
-pub struct Refused;
-
-/// Margins the day on standard input and prints its report.
-pub fn close(rt: &HostRuntime) -> Result<(), Refused> {
-    match report(rt) {
-        Ok(()) => return Ok(()),
-        Err(Stop::Refused(fault)) => {
+/// Margins the day on standard input and prints its report. Standard error says why where the status is 1.
+pub fn close(rt: &HostRuntime) -> ExitCode {
+    let Err(stop) = report(rt) else {
+        return ExitCode::SUCCESS;
+    };
+    match stop {
+        Stop::Refused(fault) => {
             print_fault(rt, fault);
-            let _ = tell(&mut rt.stderr(), fault);
+            let _ = eprintln!(rt; "{fault}");
         }
-        Err(Stop::Unread) => {
+        Stop::Unread => {
             let _ = eprintln!(rt; "margin: standard input cannot be read.");
         }
-        Err(Stop::Unwritten) => {
+        Stop::Unwritten => {
             let _ = eprintln!(rt; "margin: standard output cannot be written.");
         }
     }
-    Err(Refused)
+    ExitCode::FAILURE
 }
 
 /// The report is printed only when every figure is there.
 fn report(rt: &HostRuntime) -> Result<(), Stop> {
-    let mut input = rt.stdin();
-    let day = margin_day(&mut input)?;
-    print_report(rt, &day)
+    print_report(rt, &margin_day(rt.stdin())?)
 }

@@ -5,4 +5,3 @@ pub mod days;
 pub mod ending;
 pub mod memory;
 pub mod printing;
-pub mod telling;

@@ -1,5 +1,5 @@
 -- A side's requirement: the sum of what its accounts owe, each at least 0.
-use Rattle.std.specs.Prelude.{ℕ, ◌+◌, Bool, true, false, cond, List, [], ◌∷◌, slice_index}
+use Rattle.std.specs.Prelude.{ℕ, Bool, true, false, cond, List, slice_index, sum_by}
 use Rattle.terms.specs.declared.words.Currency.{Currency}
 use Rattle.terms.specs.declared.words.Side.{Side}
 use Rattle.terms.specs.declared.words.Side.TheVariants.{Client, House}
@@ -18,5 +18,4 @@ owed_by s c a = cond (same_side a.side s) (slice_index a.owed (currency_number c
 
 -- the sum over the accounts: no account lessens it
 abbrev pub requirement_of : Side → Currency → List Statement → ℕ
-requirement_of s c [] = 0
-requirement_of s c (a ∷ rest) = owed_by s c a + requirement_of s c rest
+requirement_of s c rows = sum_by (owed_by s c) rows

@@ -1,7 +1,7 @@
 //! Deposits and calls.
-ghost use Rattle.std.specs.Prelude.{◌≡◌, ℕ, ◌-◌, ◌<◌, List, [], replicate};
+ghost use Rattle.std.specs.Prelude.{◌≡◌, replicate};
 ghost use Rattle.collateral.specs.Deposits.{deposit_fault, deposit_after, called};
-ghost use Rattle.collateral.specs.Records.{nothing, slot_of};
+ghost use Rattle.collateral.specs.Records.{nothing};
 ghost use Rattle.terms.specs.Faults.{refusal};
 
 use crate::ledger::Ledger;
@@ -16,27 +16,15 @@ const DEPOSIT_LIMIT: i64 = 1_000_000_000_000;
 /// The most cents of one record.
 const COLLATERAL_LIMIT: u64 = 10_000_000_000_000;
 
-/// The place of a side's record in a currency.
-fn slot(side: Side, currency: Currency) -> usize
-    ensures value { result ≡ slot_of side currency }
-    ensures bound { result < 10 }
-{
-    side.number() * 5 + currency.number()
-}
-
 impl Ledger {
     /// The ledger of a sealed sheet's currencies: nothing is brought yet.
     pub fn new(sheet: &Sheet) -> Ledger
         ensures rates { result.rates ≡ sheet.now.rates }
-        ensures records { result.records ≡ replicate 10 nothing }
+        ensures records { result.records ≡ replicate 2 (replicate 5 nothing) }
     {
         Ledger {
             rates: sheet.rates(),
-            records: [Collateral {
-                held: 0,
-                unmet: 0,
-                out: None,
-            }; 10],
+            records: [[Collateral::default(); 5]; 2],
         }
     }
 
@@ -52,16 +40,15 @@ impl Ledger {
         if self.rates[currency.number()] == 0 {
             return Err(Fault::new(Refusal::Unknown, Layer::Book).with_currency(currency));
         }
-        let i = slot(side, currency);
-        let old = self.records[i];
-        let raised = old.held + cents as u64;
+        let record = &mut self.records[side.number()][currency.number()];
+        let raised = record.held + cents as u64;
         if raised > COLLATERAL_LIMIT {
             return Err(Fault::new(Refusal::Ceiling, Layer::Book).with_currency(currency));
         }
-        if old.out.is_some() {
+        if record.out.is_some() {
             return Err(Fault::new(Refusal::Notice, Layer::Book).with_currency(currency));
         }
-        self.records[i].held = raised;
+        record.held = raised;
         Ok(())
     }
 
@@ -69,11 +56,7 @@ impl Ledger {
     pub fn call(&self, side: Side, currency: Currency, requirement: u64) -> u64
         ensures value { result ≡ called self.now.records side currency requirement }
     {
-        let held = self.records[slot(side, currency)].held;
-        if requirement > held {
-            requirement - held
-        } else {
-            0
-        }
+        let record = self.records[side.number()][currency.number()];
+        requirement.saturating_sub(record.held)
     }
 }

@@ -1,9 +1,8 @@
 //! A side's requirement: what its accounts owe together.
-ghost use Rattle.std.specs.Prelude.{◌≡◌, ℕ, ◌<◌, ◌≤◌, length, take};
+ghost use Rattle.std.specs.Prelude.{◌≡◌, ◌≤◌};
 ghost use Rattle.collateral.specs.Requirements.{owed_by, requirement_of};
 
 use crate::statements::{Statement, Statements};
-use terms::names::Name;
 use terms::words::{Currency, Side};
 
 impl Statement {
@@ -21,30 +20,14 @@ impl Statement {
 }
 
 impl Statements {
-    /// No account yet.
-    pub fn new() -> Statements
-        ensures count { result.count ≡ 0 }
-    {
-        let blank = Statement {
-            name: Name { text: [b' '; 20] },
-            side: Side::Client,
-            owed: [0; 5],
-        };
-        Statements {
-            rows: [blank; 32],
-            count: 0,
-        }
-    }
-
     /// A side's requirement in a currency: the sum of what its accounts owe.
     pub fn requirement(&self, side: Side, currency: Currency) -> u64
-        ensures value { result ≡ requirement_of side currency (take self.now.count self.now.rows) }
+        ensures value { result ≡ requirement_of side currency self.now }
         ensures bound { result ≤ 3200000000000 }
     {
-        let mut sum = 0;
-        for i in 0..self.count {
-            sum += self.rows[i].adds(side, currency);
-        }
-        sum
+        self.as_slice()
+            .iter()
+            .map(|statement| statement.adds(side, currency))
+            .sum()
     }
 }

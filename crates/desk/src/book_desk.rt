@@ -1,37 +1,32 @@
 //! The lines after E: they deal on the book and bring collateral.
-use crate::turns::{at_line, currency_of, record_due};
+use crate::clerk::Desk;
 use book::books::Book;
 use collateral::ledger::Ledger;
-use lines::reader::Reader;
+use lines::reader::Section;
 use lines::record::Record;
-use stream::taker::{Flow, Taker};
 use terms::faults::Fault;
-use terms::words::{Layer, Refusal};
+use terms::words::Currency;
 
 /// Deals on a book and its collateral from their lines.
 #[derive(Drop)]
 pub struct BookDesk<'b, 's, 'a> {
     book: &'b mut Book<'s, 'a>,
     ledger: &'b mut Ledger,
-    reader: Reader,
 }
 
 impl<'b, 's, 'a> BookDesk<'b, 's, 'a> {
-    /// A desk that goes on where the sheet's reader stands.
-    pub fn new(
-        book: &'b mut Book<'s, 'a>,
-        ledger: &'b mut Ledger,
-        reader: Reader,
-    ) -> BookDesk<'b, 's, 'a> {
-        BookDesk {
-            book,
-            ledger,
-            reader,
-        }
+    pub fn new(book: &'b mut Book<'s, 'a>, ledger: &'b mut Ledger) -> BookDesk<'b, 's, 'a> {
+        BookDesk { book, ledger }
     }
+}
 
-    /// Takes a record to the call of the book or the ledger that it stands for.
-    fn judge(&mut self, rec: Record<'_>) -> Result<(), Fault> {
+impl<'b, 's, 'a> Desk for BookDesk<'b, 's, 'a> {
+    fn judge(
+        &mut self,
+        _section: Section,
+        rec: Record<'_>,
+        _values: &[i64; 8],
+    ) -> Result<(), Fault> {
         match rec {
             Record::Account { name, basis, side } => self.book.open(name, basis, side),
             Record::Post {
@@ -57,29 +52,10 @@ impl<'b, 's, 'a> BookDesk<'b, 's, 'a> {
                 currency,
                 cents,
             } => {
-                let currency = currency_of(currency)?;
+                let currency = Currency::try_from(currency)?;
                 self.ledger.deposit(side, currency, cents)
             }
             _ => Ok(()),
         }
-    }
-}
-
-impl<'b, 's, 'a> Taker for BookDesk<'b, 's, 'a> {
-    fn take(&mut self, line: &[u8]) -> Result<Flow, Fault> {
-        let number = self.reader.next_line();
-        let mut reader = self.reader;
-        let mut values = [0i64; 8];
-        let rec = match record_due(&mut reader, line, &mut values) {
-            Ok(rec) => rec,
-            Err(fault) => return Err(fault.with_line(number)),
-        };
-        at_line(self.judge(rec), number)?;
-        self.reader = reader;
-        Ok(Flow::On)
-    }
-
-    fn no_form(&self) -> Fault {
-        Fault::new(Refusal::BadLine, Layer::Line).with_line(self.reader.next_line())
     }
 }

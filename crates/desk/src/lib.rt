@@ -2,6 +2,6 @@
 #![tactic(auto)]
 
 pub mod book_desk;
+pub mod clerk;
 pub mod sheet_desk;
 pub mod statements;
-pub mod turns;

@@ -1,12 +1,11 @@
 -- A flat rate: so many cents for every contract, long or short.
-use Rattle.std.specs.Prelude.{ℕ, ◌+◌, ◌*◌, List, [], ◌∷◌, ℤ, unsigned_abs}
+use Rattle.std.specs.Prelude.{ℕ, ◌*◌, List, ℤ, unsigned_abs, sum_by}
 use Rattle.terms.specs.declared.words.Label.TheVariants.{Other}
 use Rattle.charge.specs.Meanings.{Meaning}
 
 -- the contracts without their signs, added up
 abbrev pub gross : List ℤ → ℕ
-gross [] = 0
-gross (n ∷ p) = unsigned_abs n + gross p
+gross p = sum_by unsigned_abs p
 
 abbrev pub flat : ℕ → Meaning
 flat cents = record {

@@ -1,6 +1,7 @@
 //! The clearing house's example: its market, and the accounts that are margined on it.
 use book::books::Book;
 use sheet::drafts::DraftSheet;
+use sheet::rows::Listing;
 use terms::codes::Code;
 use terms::faults::Fault;
 use terms::keys::AskedKey;
@@ -59,11 +60,21 @@ const RMB_PUT: [i64; 16] = [
     -140_000, -126_000, 98_000, -84_000,
 ];
 
+/// A series at its price in cents, with its composite delta; one contract is for 400 shares.
+fn listed(key: AskedKey, price: i64, delta: i64) -> Listing {
+    Listing {
+        key,
+        price,
+        shares: 400,
+        delta,
+    }
+}
+
 /// Lists the HKD class: spread rate 900 for one delta, minimum 200.00 for one short.
 pub fn list_home(draft: &mut DraftSheet) -> Result<(), Fault> {
     draft.add_class(HKZ, Currency::Hkd, Some(900), 20_000)?;
-    draft.add_series(CALL, 600, 400, 45, DECEMBER_CALL)?;
-    draft.add_series(PUT, 400, 400, -52, JANUARY_PUT)
+    draft.add_series(listed(CALL, 600, 45), DECEMBER_CALL)?;
+    draft.add_series(listed(PUT, 400, -52), JANUARY_PUT)
 }
 
 /// Lists the RMB class beside it, at 1.2: spread rate 720, minimum 100.00.
@@ -71,7 +82,7 @@ pub fn list_both(draft: &mut DraftSheet) -> Result<(), Fault> {
     list_home(draft)?;
     draft.add_rate(Currency::Rmb, 12_000)?;
     draft.add_class(RMZ, Currency::Rmb, Some(720), 10_000)?;
-    draft.add_series(YUAN_PUT, 400, 400, -50, RMB_PUT)
+    draft.add_series(listed(YUAN_PUT, 400, -50), RMB_PUT)
 }
 
 /// The omnibus account, gross: 20 calls short, 10 puts long and 50 short, 50 RMB puts short.

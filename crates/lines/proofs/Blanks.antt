@@ -1,51 +1,40 @@
--- A field that holds a number or is all blank.
-use Rattle.std.proofs.Common.{◌≡◌, ℕ, ◌<◌, ◌≤◌, List, length, get_or, replicate, ℤ, Some, None, Option, sym, refl, ap, ◌∙◌, subst, arith}
-use Rattle.std.specs.Fmt.{signed_decimal}
-use Rattle.std.proofs.lemmas.List.{length-replicate, length-drop, get_or-replicate, get_or_default, same_lists}
-use Rattle.lines.specs.Columns.{Is, Isnt, column, Fits, column_or_blank, FitsOrBlank}
-use Rattle.lines.specs.Fields.{Front, Alien, plain_field, number_or_blank_field}
-use Rattle.lines.proofs.Fields.{alien, front_is, front_isnt}
-use Rattle.lines.proofs.Justified.{text_at, length_right}
-use Rattle.lines.proofs.Signs.{signed_some, signed_first}
+-- The blanks before a text, and those behind it.
+use Rattle.std.proofs.Common.{◌≡◌, ℕ, zero, suc, ◌-◌, ◌<◌, ◌≢◌, eqb, List, [], ◌∷◌, ◌++◌, length, get_or, take, drop, replicate, reverse, refl, sym, ap, ◌∙◌, one-add, add-one, arith, ⊎_elim}
+use Rattle.std.specs.List.{prefix_len, suffix_len}
+use Rattle.std.proofs.lemmas.Bool.{cases_eq, eq-eqb, ne_eqb}
+use Rattle.std.proofs.lemmas.List.{length-reverse, length-drop, get_or-reverse, take_at, replicate_more, reverse-append, reverse-reverse}
 
-module _ (f : List ℕ) (i : ℕ) (before : (k : ℕ) → k < i → get_or f k 0 ≡ 32) (within : i ≤ length f) (stops : i < length f → get_or f i 0 ≡ 32 → ⊥) where
-  blank_only : i ≡ length f → (b : Option ℤ) → FitsOrBlank (length f) b → f ≡ column_or_blank (length f) b → b ≡ None
-  blank_only e None g q = refl
-  blank_only e (Some n) g q =
-      absurd (omega (arith, ap length (text_at f i (length f) (signed_decimal n) before within stops q (signed_some n g.0) (signed_first n g.0)), length-drop i f, signed_some n g.0))
+abbrev pub blanks : List ℕ → ℕ
+blanks f = prefix_len (λ b. eqb b 32) f
 
-  pub blank_is : i ≡ length f → Is (column_or_blank (length f)) (FitsOrBlank (length f)) f None
-  blank_is e = record {
-    fit = tt;
-    reads = same_lists f (replicate (length f) 32) (sym (length-replicate (length f) 32))
-        (λ k d h. get_or_default f k d 0 h ∙ before k (omega arith) ∙ sym (get_or-replicate (length f) k 32 d h));
-    only = blank_only e;
-  }
+-- a field is the blanks before its text, and its text
+pub blanks-drop : (f : List ℕ) → f ≡ replicate (blanks f) 32 ++ drop (blanks f) f
+blanks-drop [] = refl
+blanks-drop (x ∷ xs) = ⊎_elim (λ e. rw (eq-eqb x 32 e, one-add, e) (ap (λ (t : List ℕ). 32 ∷ t) (blanks-drop xs))) (λ n. rw (ne_eqb x 32 n) refl) (cases_eq x 32)
 
-  not_blank : (i ≡ length f → ⊥) → f ≡ replicate (length f) 32 → ⊥
-  not_blank e q = let h : i < length f = omega arith in stops h (ap (λ (x : List ℕ). get_or x i 0) q ∙ get_or-replicate (length f) i 32 0 h)
+pub blanks-append : (n : ℕ) (t : List ℕ) → 0 < length t → get_or t 0 0 ≢ 32 → blanks (replicate n 32 ++ t) ≡ n
+blanks-append zero [] l h = absurd (omega arith)
+blanks-append zero (c ∷ t) l h = rw (ne_eqb c 32 h) refl
+blanks-append (suc n) t l h = rw one-add (ap suc (blanks-append n t l h))
 
-  pub blank_isnt : (i ≡ length f → ⊥) → Isnt (column (length f)) (Fits (length f)) f → Isnt (column_or_blank (length f)) (FitsOrBlank (length f)) f
-  blank_isnt e h None g q = not_blank e q
-  blank_isnt e h (Some n) g q = h n g q
+abbrev pub blanks_behind : List ℕ → ℕ
+blanks_behind f = suffix_len (λ b. eqb b 32) f
 
-  some_only : (i ≡ length f → ⊥) → (n : ℤ) → Is (column (length f)) (Fits (length f)) f n → (b : Option ℤ) → FitsOrBlank (length f) b → f ≡ column_or_blank (length f) b → b ≡ Some n
-  some_only e n h None g q = absurd (not_blank e q)
-  some_only e n h (Some m) g q = ap Some (h.only m g q)
+reverse-replicate : (n : ℕ) → reverse {A = ℕ} (replicate n 32) ≡ replicate n 32
+reverse-replicate zero = refl
+reverse-replicate (suc n) = reverse-append (32 ∷ []) (replicate n 32) ∙ ap (λ (t : List ℕ). t ++ 32 ∷ []) (reverse-replicate n) ∙ replicate_more n 32 ∙ rw add-one
 
-  pub some_is : (i ≡ length f → ⊥) → (n : ℤ) → Is (column (length f)) (Fits (length f)) f n → Is (column_or_blank (length f)) (FitsOrBlank (length f)) f (Some n)
-  some_is e n h = record { fit = h.fit; reads = h.reads; only = some_only e n h }
+-- a field is its text, and the blanks behind it
+pub take-blanks : (f : List ℕ) → f ≡ take (length f - blanks_behind f) f ++ replicate (blanks_behind f) 32
+take-blanks f =
+    let n = blanks_behind f in
+    let t = reverse (drop n (reverse f)) in
+    let e : f ≡ t ++ replicate n 32 =
+    sym (reverse-reverse f) ∙ ap reverse (blanks-drop (reverse f)) ∙ reverse-append (replicate n 32) (drop n (reverse f)) ∙ ap (λ (x : List ℕ). t ++ x) (reverse-replicate n) in
+    let l : length t ≡ length f - n = length-reverse (drop n (reverse f)) ∙ length-drop n (reverse f) ∙ ap (λ (m : ℕ). m - n) (length-reverse f) in
+    e ∙ ap (λ (x : List ℕ). x ++ replicate n 32) (sym (ap (take (length f - n)) e ∙ take_at t (replicate n 32) (length f - n) l))
 
-wide : (w : ℕ) (a : Option ℤ) → FitsOrBlank w a → length (column_or_blank w a) ≡ w
-wide w None f = length-replicate w 32
-wide w (Some z) f = length_right w (signed_decimal z) f.1
-
-module _ (w : ℕ) where
-  pub blank_alien : (s : List ℕ) → Alien (plain_field w) s → Alien (number_or_blank_field w) s
-  blank_alien = alien (number_or_blank_field w) w (wide w)
-
-  pub blank_none : (s f t : List ℕ) → Front (plain_field w) s f t → Isnt (column_or_blank (length f)) (FitsOrBlank (length f)) f → Alien (number_or_blank_field w) s
-  blank_none s f t p q = front_isnt (number_or_blank_field w) w (wide w) s f t p (subst (λ (z : ℕ). Isnt (column_or_blank z) (FitsOrBlank z) f) p.fit q)
-
-  pub blank_front : (s f t : List ℕ) (a : Option ℤ) → Front (plain_field w) s f t → Is (column_or_blank (length f)) (FitsOrBlank (length f)) f a → Front (number_or_blank_field w) s a t
-  blank_front s f t a p q = front_is (number_or_blank_field w) w (wide w) s f t a p (subst (λ (z : ℕ). Is (column_or_blank z) (FitsOrBlank z) f a) p.fit q)
+pub append-blanks : (n : ℕ) (t : List ℕ) → 0 < length t → get_or t (length t - 1) 0 ≢ 32 → blanks_behind (t ++ replicate n 32) ≡ n
+append-blanks n t l h =
+    ap blanks (reverse-append t (replicate n 32) ∙ ap (λ (x : List ℕ). x ++ reverse t) (reverse-replicate n))
+    ∙ blanks-append n (reverse t) (omega (arith, length-reverse t)) (λ e. h (ap (λ (i : ℕ). get_or t i 0) (omega arith) ∙ sym (get_or-reverse t 0 0 l) ∙ e))

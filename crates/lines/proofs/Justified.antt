@@ -1,44 +1,65 @@
--- A text at the right of a width: blanks, then the text.
-use Rattle.std.proofs.Common.{◌≡◌, ℕ, ◌+◌, ◌-◌, ◌<◌, ◌≤◌, List, ◌++◌, length, get_or, take, drop, replicate, Some, None, Option, sym, ap, ◌∙◌, arith, MatchOption}
-use Rattle.std.proofs.lemmas.List.{length-append, length-replicate, length-drop, length-take-le, get_or_append_left, get_or-replicate, get_or-append_right, get_or-take, drop_at, take-append-drop, same_lists, get_or_default}
-use Rattle.lines.specs.Columns.{right, Is, Isnt}
+-- A number at the right of its field, or a field that is all blank.
+use Rattle.std.proofs.Common.{◌≡◌, ℕ, ◌-◌, ◌≤◌, ◌≢◌, eqb, List, length, drop, replicate, ℤ, Option, None, Some, refl, sym, ap, ◌∙◌, arith, option_map}
+use Rattle.std.specs.Fmt.{signed_decimal}
+use Rattle.std.proofs.lemmas.List.{length-append, length-replicate, length-drop, drop_at, drop_all, append-nil}
+use Rattle.std.proofs.lemmas.List.Folds.{prefix_len-replicate}
+use Rattle.std.proofs.lemmas.List.Sums.{prefix_len-le-length}
+use Rattle.lines.specs.Columns.{right, column, column_or_blank, Is, Isnt, Exactly, Within, Fits, FitsOrBlank}
+use Rattle.lines.proofs.Blanks.{blanks, blanks-drop, blanks-append}
+use Rattle.lines.proofs.Numerals.{some, no_blank}
 
--- the text of a field that begins with i blanks and then goes on otherwise
-pub text_at : (f : List ℕ) (i w : ℕ) (text : List ℕ)
-    → ((k : ℕ) → k < i → get_or f k 0 ≡ 32) → i ≤ length f → (i < length f → get_or f i 0 ≡ 32 → ⊥)
-    → f ≡ right w text → 0 < length text → (get_or text 0 0 ≡ 32 → ⊥) → drop i f ≡ text
-text_at f i w text before within stops e some first =
-    let m : length f ≡ (w - length text) + length text = ap length e ∙ length-append (replicate (w - length text) 32) text ∙ ap (λ (z : ℕ). z + length text) (length-replicate (w - length text) 32) in
-    let here : get_or f (w - length text) 0 ≡ get_or text 0 0 =
-    rw e (get_or-append_right (replicate (w - length text) 32) text (w - length text) (w - length text) 0 (length-replicate (w - length text) 32) (omega arith) ∙ ap (λ (z : ℕ). get_or text z 0) (omega arith)) in
-    let not_more : w - length text < i → ⊥ = λ h. first (sym here ∙ before (w - length text) h) in
-    let not_less : i < w - length text → ⊥ = λ h.
-    stops (omega arith) (rw e (get_or_append_left (replicate (w - length text) 32) text 0 i (rw length-replicate h) ∙ get_or-replicate (w - length text) i 32 0 h)) in
-    let i-is : i ≡ w - length text = omega arith in
-    rw e (drop_at (replicate (w - length text) 32) text i (length-replicate (w - length text) 32 ∙ sym i-is))
+abbrev text_of : List ℕ → List ℕ
+text_of f = drop (blanks f) f
 
--- and back
-pub field_of : (f : List ℕ) (i : ℕ) → ((k : ℕ) → k < i → get_or f k 0 ≡ 32) → i ≤ length f → f ≡ right (length f) (drop i f)
-field_of f i before within =
-    let n : length f - length (drop i f) ≡ i = omega (arith, length-drop i f) in
-    let b : take i f ≡ replicate i 32 =
-    same_lists (take i f) (replicate i 32) (length-take-le i f within ∙ sym (length-replicate i 32))
-    (λ k d h. let l : k < i = omega (arith, length-take-le i f within) in
-    get_or-take i f k d l ∙ get_or_default f k d 0 (omega arith) ∙ before k l ∙ sym (get_or-replicate i k 32 d l)) in
-    rw n (sym (take-append-drop i f) ∙ ap (λ (z : List ℕ). z ++ drop i f) b)
+at_right : (f : List ℕ) → f ≡ right (length f) (text_of f)
+at_right f = let m : length f - length (text_of f) ≡ blanks f = omega (arith, length-drop (blanks f) f, prefix_len-le-length (λ b. eqb b 32) f) in rw m (blanks-drop f)
 
-pub length_right : (w : ℕ) (text : List ℕ) → length text ≤ w → length (right w text) ≡ w
-length_right w text h = omega (arith, length-append (replicate (w - length text) 32) text, length-replicate {A = ℕ} (w - length text) 32)
+in_column : (f : List ℕ) (z : ℤ) → Within z → f ≡ column (length f) z → text_of f ≡ signed_decimal z
+in_column f z h e =
+    let n = length f - length (signed_decimal z) in
+    ap text_of e ∙ drop_at (replicate n 32) (signed_decimal z) (blanks (column (length f) z)) (length-replicate n 32 ∙ sym (blanks-append n (signed_decimal z) (some z h) (no_blank z h)))
 
--- any form of text that is not empty and does not begin with a blank, at the right of a width
-module _ {A : Type 0} (T : A → List ℕ) (Fit : A → Type 0) (some : (a : A) → Fit a → 0 < length (T a)) (first : (a : A) → Fit a → get_or (T a) 0 0 ≡ 32 → ⊥)
-    (f : List ℕ) (i : ℕ) (t : List ℕ) (te : t ≡ drop i f)
-    (before : (k : ℕ) → k < i → get_or f k 0 ≡ 32) (within : i ≤ length f) (stops : i < length f → get_or f i 0 ≡ 32 → ⊥) where
-  pub right_is : (r : Option A) → MatchOption r (Isnt T Fit t) (λ a. Is T Fit t a)
-      → MatchOption r (Isnt (λ a. right (length f) (T a)) (λ a. Fit a × (length (T a) ≤ length f)) f) (λ a. Is (λ b. right (length f) (T b)) (λ b. Fit b × (length (T b) ≤ length f)) f a)
-  right_is None h = λ b g e. h b g.0 (te ∙ text_at f i (length f) (T b) before within stops e (some b g.0) (first b g.0))
-  right_is (Some a) h = record {
-    fit = (h.fit, omega (arith, ap length te, length-drop i f, ap length h.reads));
-    reads = field_of f i before within ∙ ap (right (length f)) (sym te ∙ h.reads);
-    only = λ b g e. h.only b g.0 (te ∙ text_at f i (length f) (T b) before within stops e (some b g.0) (first b g.0));
-  }
+pub number_read : (f : List ℕ) (r : Option ℤ) → Exactly signed_decimal Within (text_of f) r → Exactly (column (length f)) (Fits (length f)) f r
+number_read f None h = λ z g e. h z g.0 (in_column f z g.0 e)
+number_read f (Some z) h = record {
+  fit = (h.fit, omega (arith, length-drop (blanks f) f, ap length h.reads));
+  reads = at_right f ∙ ap (right (length f)) h.reads;
+  only = λ b g e. h.only b g.0 (in_column f b g.0 e);
+}
+
+pub blank_read : (f : List ℕ) → blanks f ≡ length f → Is (column_or_blank (length f)) (FitsOrBlank (length f)) f None
+blank_read f l = record { fit = tt; reads = blanks-drop f ∙ rw (l, drop_all (length f) f (omega arith)) (append-nil _); only = only }
+  where
+    only : (b : Option ℤ) → FitsOrBlank (length f) b → f ≡ column_or_blank (length f) b → b ≡ None
+    only None g e = refl
+    only (Some z) g e = absurd (omega (arith, length-drop (blanks f) f, ap length (in_column f z g.0 e), some z g.0))
+
+-- where not all is blank, the values are the numbers
+pub some_read : (f : List ℕ) → blanks f ≢ length f → (r : Option ℤ) → Exactly (column (length f)) (Fits (length f)) f r → Exactly (column_or_blank (length f)) (FitsOrBlank (length f)) f (option_map Some r)
+some_read f n = read
+  where
+    none : f ≢ replicate (length f) 32
+    none e = n (ap blanks e ∙ prefix_len-replicate (λ b. eqb b 32) (length f) 32 refl)
+
+    read : (r : Option ℤ) → Exactly (column (length f)) (Fits (length f)) f r → Exactly (column_or_blank (length f)) (FitsOrBlank (length f)) f (option_map Some r)
+    read None h = isnt
+      where
+        isnt : Isnt (column_or_blank (length f)) (FitsOrBlank (length f)) f
+        isnt None g e = none e
+        isnt (Some z) g e = h z g e
+    read (Some z) h = record { fit = h.fit; reads = h.reads; only = only }
+      where
+        only : (b : Option ℤ) → FitsOrBlank (length f) b → f ≡ column_or_blank (length f) b → b ≡ Some z
+        only None g e = absurd (none e)
+        only (Some y) g e = ap Some (h.only y g e)
+
+-- columns are as wide as their field
+length-right : (w : ℕ) (t : List ℕ) → length t ≤ w → length (right w t) ≡ w
+length-right w t h = omega (arith, length-append (replicate (w - length t) 32) t, length-replicate {A = ℕ} (w - length t) 32)
+
+pub length-column : (w : ℕ) (z : ℤ) → Fits w z → length (column w z) ≡ w
+length-column w z f = length-right w (signed_decimal z) f.1
+
+pub length-column_or_blank : (w : ℕ) (a : Option ℤ) → FitsOrBlank w a → length (column_or_blank w a) ≡ w
+length-column_or_blank w None f = length-replicate w 32
+length-column_or_blank w (Some z) f = length-column w z f

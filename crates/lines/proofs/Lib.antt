@@ -1,12 +1,8 @@
-pub mod Decimal
 pub mod Fields
-pub mod Justified
-pub mod Signs
 pub mod Blanks
-pub mod Keys
-pub mod Letters
+pub mod Decimal
+pub mod Numerals
+pub mod Justified
 pub mod Trims
-pub mod Puts
-pub mod Sorts
 pub mod Rows
-pub mod Lays
+pub mod Printed

@@ -1,105 +1,80 @@
 -- The values of an array one after another.
-use Rattle.std.proofs.Common.{◌≡◌, ℕ, ◌+◌, ◌<◌, ◌≤◌, List, [], ◌∷◌, ◌++◌, map, length, get_or, take, drop, ℤ, pos, sym, refl, ap, ◌∙◌, subst, arith}
-use Rattle.std.proofs.lemmas.List.{append_assoc, append-nil, length_push, length-take-le, take-append-drop, drop_more, length-drop, take_all, nil_from_length}
+use Rattle.std.proofs.Common.{◌≡◌, ℕ, zero, suc, ◌+◌, ◌<◌, ◌≤◌, List, [], ◌∷◌, ◌++◌, map, length, get_or, take, drop, ℤ, pos, sym, refl, ap, ◌∙◌, subst, arith}
+use Rattle.std.proofs.lemmas.List.{length_push, take_more, drop_more, take_all, drop_all}
 use Rattle.lines.specs.Columns.{Is, Isnt, Fits, column, laid}
 use Rattle.lines.specs.Fields.{Front, Alien, number_field}
-use Rattle.lines.specs.Records.{Entry, array, AllFit, body, Of}
-use Rattle.lines.proofs.Sorts.{back}
+use Rattle.lines.specs.Records.{Entry, array, AllFit, Sound, body, Of}
 
--- values, a blank before each
-abbrev pub rows : List ℤ → List ℕ
-rows [] = []
-rows (z ∷ zs) = 32 ∷ (column 9 z ++ rows zs)
+-- values, a blank before each, and what follows
+abbrev pub rows : List ℤ → List ℕ → List ℕ
+rows [] t = t
+rows (z ∷ zs) t = 32 ∷ (column 9 z ++ rows zs t)
 
-laid_rows : (zs : List ℤ) → laid (map (column 9) zs) ≡ rows zs ++ 10 ∷ []
-laid_rows [] = refl
-laid_rows (z ∷ zs) = ap (λ (x : List ℕ). 32 ∷ (column 9 z ++ x)) (laid_rows zs) ∙ ap (λ (x : List ℕ). 32 ∷ x) (sym (append_assoc (column 9 z) (rows zs) (10 ∷ [])))
+laid-rows : (zs : List ℤ) → laid (map (column 9) zs) ≡ rows zs (10 ∷ [])
+laid-rows [] = refl
+laid-rows (z ∷ zs) = ap (λ (t : List ℕ). 32 ∷ (column 9 z ++ t)) (laid-rows zs)
 
--- s begins with the written form of zs, and of no other list of that length; t follows
+rows_push : (zs : List ℤ) (z : ℤ) (t : List ℕ) → rows (zs ++ z ∷ []) t ≡ rows zs (32 ∷ (column 9 z ++ t))
+rows_push [] z t = refl
+rows_push (y ∷ ys) z t = ap (λ (u : List ℕ). 32 ∷ (column 9 y ++ u)) (rows_push ys z t)
+
+fit_push : (zs : List ℤ) (z : ℤ) → AllFit zs → Fits 9 z → AllFit (zs ++ z ∷ [])
+fit_push [] z f g = (g, tt)
+fit_push (y ∷ ys) z f g = (f.0, fit_push ys z f.1 g)
+
+fit_at : (zs : List ℤ) (k : ℕ) → AllFit zs → k < length zs → Fits 9 (get_or zs k (pos 0))
+fit_at [] k f l = absurd (omega arith)
+fit_at (z ∷ zs) zero f l = f.0
+fit_at (z ∷ zs) (suc k) f l = fit_at zs k f.1 (omega arith)
+
+-- s begins with the values zs, and t follows; and so it is with the first values of any longer list that s begins with
 pub record Rows (s : List ℕ) (zs : List ℤ) (t : List ℕ) : Type 0 where
   pub fit : AllFit zs
-  pub reads : s ≡ rows zs ++ t
-  pub only : (ys : List ℤ) (u : List ℕ) → AllFit ys → length ys ≡ length zs → s ≡ rows ys ++ u → (ys ≡ zs) × (u ≡ t)
+  pub reads : s ≡ rows zs t
+  pub only : (ys : List ℤ) (u : List ℕ) → AllFit ys → length zs ≤ length ys → s ≡ rows ys u → (take (length zs) ys ≡ zs) × (t ≡ rows (drop (length zs) ys) u)
 
-rows_++ : (xs ys : List ℤ) (u : List ℕ) → rows (xs ++ ys) ++ u ≡ rows xs ++ (rows ys ++ u)
-rows_++ [] ys u = refl
-rows_++ (x ∷ xs) ys u =
-    ap (λ (z : List ℕ). 32 ∷ z) (append_assoc (column 9 x) (rows (xs ++ ys)) u ∙ ap (λ (z : List ℕ). column 9 x ++ z) (rows_++ xs ys u) ∙ sym (append_assoc (column 9 x) (rows xs) (rows ys ++ u)))
+pub rows_none : (s : List ℕ) → Rows s [] s
+rows_none s = record { fit = tt; reads = refl; only = λ ys u f l e. (refl, e) }
 
-fit_++ : (xs ys : List ℤ) → AllFit (xs ++ ys) → AllFit xs × AllFit ys
-fit_++ [] ys f = (tt, f)
-fit_++ (x ∷ xs) ys f = let r = fit_++ xs ys f.1 in ((f.0, r.0), r.1)
+module _ {s : List ℕ} {zs : List ℤ} {t : List ℕ} (p : Rows s zs t) where
+  -- the value that comes next
+  next : (ys : List ℤ) (u : List ℕ) → AllFit ys → length zs < length ys → s ≡ rows ys u
+      → t ≡ 32 ∷ (column 9 (get_or ys (length zs) (pos 0)) ++ rows (drop (length zs + 1) ys) u)
+  next ys u f l e = (p.only ys u f (omega arith) e).1 ∙ ap (λ (x : List ℤ). rows x u) (drop_more ys (length zs) (pos 0) l)
 
-fit_push : (xs : List ℤ) (y : ℤ) → AllFit xs → Fits 9 y → AllFit (xs ++ y ∷ [])
-fit_push [] y f g = (g, tt)
-fit_push (x ∷ xs) y f g = (f.0, fit_push xs y f.1 g)
-
-pub rows_none : (s : List ℕ) (zs : List ℤ) → zs ≡ [] → Rows s zs s
-rows_none s zs z = rw z (record { fit = tt; reads = refl; only = only })
-  where
-    only : (ys : List ℤ) (u : List ℕ) → AllFit ys → length ys ≡ 0 → s ≡ rows ys ++ u → (ys ≡ []) × (u ≡ s)
-    only [] u f l e = (refl, sym e)
-    only (y ∷ ys) u f l e = absurd (omega arith)
-
--- a longer list, split at the end of zs
-module _ (s : List ℕ) (zs : List ℤ) (t : List ℕ) (p : Rows s zs t) (ys : List ℤ) (u : List ℕ) (f : AllFit ys) (l : length zs < length ys) (e : s ≡ rows ys ++ u) where
-  split : ys ≡ take (length zs) ys ++ (get_or ys (length zs) (pos 0) ∷ drop (length zs + 1) ys)
-  split = sym (take-append-drop (length zs) ys) ∙ ap (λ (x : List ℤ). take (length zs) ys ++ x) (drop_more ys (length zs) (pos 0) l)
-
-  fits : AllFit (take (length zs) ys) × AllFit (get_or ys (length zs) (pos 0) ∷ drop (length zs + 1) ys)
-  fits = fit_++ (take (length zs) ys) (get_or ys (length zs) (pos 0) ∷ drop (length zs + 1) ys) (subst AllFit split f)
-
-  same : (take (length zs) ys ≡ zs) × (rows (get_or ys (length zs) (pos 0) ∷ drop (length zs + 1) ys) ++ u ≡ t)
-  same = p.only (take (length zs) ys) _ fits.0 (length-take-le (length zs) ys (omega arith))
-      (e ∙ ap (λ (x : List ℤ). rows x ++ u) split ∙ rows_++ (take (length zs) ys) (get_or ys (length zs) (pos 0) ∷ drop (length zs + 1) ys) u)
-
-  follows : t ≡ 32 ∷ (column 9 (get_or ys (length zs) (pos 0)) ++ (rows (drop (length zs + 1) ys) ++ u))
-  follows = sym same.1 ∙ ap (λ (x : List ℕ). 32 ∷ x) (append_assoc (column 9 (get_or ys (length zs) (pos 0))) (rows (drop (length zs + 1) ys)) u)
-
-pub rows_more : (s : List ℕ) (zs : List ℤ) (t : List ℕ) (z : ℤ) (v : List ℕ) → Rows s zs t → Front (number_field 9) t z v → Rows s (zs ++ z ∷ []) v
-rows_more s zs t z v p f = record {
-  fit = fit_push zs z p.fit f.fit;
-  reads = p.reads ∙ ap (λ (x : List ℕ). rows zs ++ x) (f.reads ∙ ap (λ (x : List ℕ). 32 ∷ (x ++ v)) (sym (append-nil (column 9 z)))) ∙ sym (rows_++ zs (z ∷ []) v);
-  only = λ ys u a l e.
-      let m : length zs < length ys = omega (arith, length_push zs z) in
-      let nil : drop (length zs + 1) ys ≡ [] = nil_from_length (drop (length zs + 1) ys) (omega (arith, length-drop (length zs + 1) ys, length_push zs z)) in
-      let y = f.only _ _ (fits s zs t p ys u a m e).1.0 (follows s zs t p ys u a m e) in
-      let sp = split s zs t p ys u a m e in
-      let fr : take (length zs) ys ≡ zs = (same s zs t p ys u a m e).0 in
-      let y0 : get_or ys (length zs) (pos 0) ≡ z = y.0 in
-      let y1 : rows (drop (length zs + 1) ys) ++ u ≡ v = y.1 in
-      (sp ∙ cc, rw nil at y1);
-}
-
--- the lines of R
-module _ (s : List ℕ) where
-  line : (e : Entry) (o : Of 82 e) → s ≡ body e → s ≡ rows (back 82 e o).0 ++ 10 ∷ []
-  line e o q = q ∙ ap body (back 82 e o).1 ∙ laid_rows (back 82 e o).0
-
-  pub rows_alien : (zs : List ℤ) (t : List ℕ) → Rows s zs t → Alien (number_field 9) t → length zs < 8 → Isnt body (Of 82) s
-  rows_alien zs t p h l e o q =
-      let ys = (back 82 e o).0 in
-      let f = (back 82 e o).2 in
-      let m : length zs < length ys = omega (arith, f.0) in
-      h.none _ _ (fits s zs t p ys (10 ∷ []) f.1 m (line e o q)).1.0 (follows s zs t p ys (10 ∷ []) f.1 m (line e o q))
-
-  rows_is : (zs : List ℤ) (t : List ℕ) → Rows s zs t → length zs ≡ 8 → t ≡ 10 ∷ [] → Is body (Of 82) s (array zs)
-  rows_is zs t p l z = record {
-    fit = ((l, p.fit), refl);
-    reads = p.reads ∙ ap (λ (x : List ℕ). rows zs ++ x) z ∙ sym (laid_rows zs);
-    only = λ e o q. (back 82 e o).1 ∙ ap array (p.only (back 82 e o).0 (10 ∷ []) (back 82 e o).2.1 ((back 82 e o).2.0 ∙ sym l) (line e o q)).0;
+  pub rows_more : {z : ℤ} {v : List ℕ} → Front (number_field 9) t z v → Rows s (zs ++ z ∷ []) v
+  rows_more {z} {v} q = record {
+    fit = fit_push zs z p.fit q.fit;
+    reads = p.reads ∙ ap (rows zs) q.reads ∙ sym (rows_push zs z v);
+    only = λ ys u f l e.
+        let m : length zs < length ys = omega (arith, length_push zs z) in
+        let a : take (length zs) ys ≡ zs = (p.only ys u f (omega arith) e).0 in
+        let b = q.only (get_or ys (length zs) (pos 0)) (rows (drop (length zs + 1) ys) u) (fit_at ys (length zs) f m) (next ys u f m e) in
+        rw length_push (take_more ys (length zs) (pos 0) m ∙ cc, sym b.1);
   }
 
-  rows_longer : (zs : List ℤ) (t : List ℕ) → Rows s zs t → length zs ≡ 8 → (t ≡ 10 ∷ [] → ⊥) → Isnt body (Of 82) s
-  rows_longer zs t p l h e o q = h (sym (p.only (back 82 e o).0 (10 ∷ []) (back 82 e o).2.1 ((back 82 e o).2.0 ∙ sym l) (line e o q)).1)
+  -- a line of R has eight values
+  module _ (e : Entry) (o : Of 82 e) (q : s ≡ body e) where
+    held : (ys : List ℤ) × (e ≡ array ys)
+    held = grind arith
 
-  -- all eight are found
-  module _ (found : List ℤ) (k : ℕ) (t : List ℕ) (p : Rows s (take k found) t) (l : length found ≡ 8) (m : 8 ≤ k) where
-    whole : Rows s found t
-    whole = let e : take k found ≡ found = take_all k found (omega arith) in subst (λ (x : List ℤ). Rows s x t) e p
+    sound : Sound (array held.0)
+    sound = subst Sound held.1 o.0
 
-    pub rows_end : t ≡ 10 ∷ [] → Is body (Of 82) s (array found)
-    rows_end = rows_is found t whole l
+    line : s ≡ rows held.0 (10 ∷ [])
+    line = q ∙ ap body held.1 ∙ laid-rows held.0
 
-    pub rows_no_end : (t ≡ 10 ∷ [] → ⊥) → Isnt body (Of 82) s
-    rows_no_end = rows_longer found t whole l
+    all : length zs ≡ 8 → (e ≡ array zs) × (t ≡ 10 ∷ [])
+    all l =
+        let m : length zs ≡ length held.0 = omega (arith, sound.0) in
+        let r = p.only held.0 (10 ∷ []) sound.1 (omega arith) line in
+        (held.1 ∙ ap array (sym (take_all (length zs) held.0 (omega arith)) ∙ r.0), r.1 ∙ ap (λ (ys : List ℤ). rows ys (10 ∷ [])) (drop_all (length zs) held.0 (omega arith)))
+
+  pub rows_alien : length zs < 8 → Alien (number_field 9) t → Isnt body (Of 82) s
+  rows_alien l h e o q = h.none _ _ (fit_at (held e o q).0 (length zs) (sound e o q).1 (omega (arith, (sound e o q).0))) (next (held e o q).0 (10 ∷ []) (sound e o q).1 (omega (arith, (sound e o q).0)) (line e o q))
+
+  pub rows_longer : length zs ≡ 8 → (t ≡ 10 ∷ [] → ⊥) → Isnt body (Of 82) s
+  rows_longer l h e o q = h (all e o q l).1
+
+  pub rows_are : length zs ≡ 8 → t ≡ 10 ∷ [] → Is body (Of 82) s (array zs)
+  rows_are l z = record { fit = ((l, p.fit), refl); reads = p.reads ∙ ap (rows zs) z ∙ sym (laid-rows zs); only = λ e o q. (all e o q l).0 }

@@ -7,22 +7,15 @@ use Rattle.terms.specs.Codes.{lettered}
 use Rattle.terms.specs.Words.{kind_letter}
 use Rattle.lines.specs.Columns.{left, column, Fits, column_or_blank, FitsOrBlank, Coded, Spelled}
 
--- one field: its values, how each is written, and which may stand in it; or two, a blank between them
-pub data Field : Type 1 where
-  one : (A : Type 0) → (A → List ℕ) → (A → Type 0) → Field
-  also : Field → Field → Field
+-- a field: its values, how each is written with what follows behind it, and which may stand in it
+pub record Field : Type 1 where
+  pub Value : Type 0
+  pub text : Value → List ℕ → List ℕ
+  pub Fit : Value → Type 0
 
-abbrev pub Value : Field → Type 0
-Value (one A W F) = A
-Value (also P Q) = Value P × Value Q
-
-abbrev pub text : (P : Field) → Value P → List ℕ
-text (one A W F) a = W a
-text (also P Q) p = text P p.0 ++ (32 ∷ text Q p.1)
-
-abbrev pub Fit : (P : Field) → Value P → Type 0
-Fit (one A W F) a = F a
-Fit (also P Q) p = Fit P p.0 × Fit Q p.1
+-- a field whose values are written by a form
+abbrev pub one : (A : Type 0) → (A → List ℕ) → (A → Type 0) → Field
+one A W F = record { Value = A; text = λ a t. W a ++ t; Fit = F }
 
 -- bytes as they stand, of a width
 abbrev pub plain_field : ℕ → Field
@@ -48,26 +41,28 @@ code_field = one Code lettered Coded
 abbrev pub name_field : Field
 name_field = one (List ℕ) (left 20) Spelled
 
--- a key: class, month, kind and strike
-abbrev pub key_parts : Field
-key_parts = also code_field (also (number_field 6) (also (letter_field kind_letter) (number_field 8)))
+-- the code of a key is three capitals, and its numbers fit their columns
+abbrev pub Keyed : AskedKey → Type 0
+Keyed k = Coded k.class × Fits 6 k.month × Fits 8 k.strike
 
-abbrev pub parts : AskedKey → Value key_parts
-parts k = (k.class, (k.month, (k.kind, k.strike)))
-
+-- a key: class, month, kind and strike, a blank before each but the first
 abbrev pub key_field : Field
-key_field = one AskedKey (λ k. text key_parts (parts k)) (λ k. Fit key_parts (parts k))
+key_field = record {
+  Value = AskedKey;
+  text = λ k t. lettered k.class ++ 32 ∷ (column 6 k.month ++ 32 ∷ kind_letter k.kind ∷ 32 ∷ (column 8 k.strike ++ t));
+  Fit = Keyed;
+}
 
 -- s begins with a blank and the field of a, and of no other value; t follows
-pub record Front (P : Field) (s : List ℕ) (a : Value P) (t : List ℕ) : Type 0 where
-  pub fit : Fit P a
-  pub reads : s ≡ 32 ∷ (text P a ++ t)
-  pub only : (b : Value P) (u : List ℕ) → Fit P b → s ≡ 32 ∷ (text P b ++ u) → (b ≡ a) × (u ≡ t)
+pub record Front (P : Field) (s : List ℕ) (a : P.Value) (t : List ℕ) : Type 0 where
+  pub fit : P.Fit a
+  pub reads : s ≡ 32 ∷ P.text a t
+  pub only : (b : P.Value) (u : List ℕ) → P.Fit b → s ≡ 32 ∷ P.text b u → (b ≡ a) × (u ≡ t)
 
 -- s begins with a blank and the field of no value
 pub record Alien (P : Field) (s : List ℕ) : Type 0 where
-  pub none : (b : Value P) (u : List ℕ) → Fit P b → s ≢ 32 ∷ (text P b ++ u)
+  pub none : (b : P.Value) (u : List ℕ) → P.Fit b → s ≢ 32 ∷ P.text b u
 
 -- r is the value whose field s begins with, and what follows it; or nothing where there is none
-abbrev pub Cut : (P : Field) → List ℕ → Option (Value P × Bor (List ℕ)) → Type 0
+abbrev pub Cut : (P : Field) → List ℕ → Option (P.Value × Bor (List ℕ)) → Type 0
 Cut P s r = MatchOption r (Alien P s) (λ p. Front P s p.0 p.1.now)

@@ -3,3 +3,4 @@ pub mod Fields
 pub mod Records
 pub mod Report
 pub mod Turns
+pub mod Widths

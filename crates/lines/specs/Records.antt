@@ -10,6 +10,7 @@ use Rattle.terms.specs.Words.{basis_letter, kind_letter, leg_letter, side_letter
 use Rattle.lines.specs.declared.record.Record.{Record}
 use Rattle.lines.specs.declared.record.Record.TheVariants.{Class, Series, Array, Rate, End, Account, Post, CloseOut, Move, Deposit}
 use Rattle.lines.specs.Columns.{Is, Isnt, left, column, Fits, column_or_blank, FitsOrBlank, laid, Coded, Spelled}
+use Rattle.lines.specs.Fields.{Keyed}
 
 -- what a line says
 pub data Entry : Type 0 where
@@ -70,10 +71,6 @@ body e = laid (fields e)
 
 abbrev pub written : Entry → List ℕ
 written e = letter e ∷ body e
-
--- the code of a key is three capitals, and its numbers fit their columns
-abbrev pub Keyed : AskedKey → Type 0
-Keyed k = Coded k.class × Fits 6 k.month × Fits 8 k.strike
 
 abbrev pub AllFit : List ℤ → Type 0
 AllFit [] = Unit {0}

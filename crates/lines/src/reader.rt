@@ -14,8 +14,9 @@ use terms::words::{Layer, Refusal};
 pub const LAST_LINE: u32 = 9_999_999;
 
 /// What is due: a line of the sheet, a series' first or second array, or a line of the book.
-#[derive(Clone, Copy)]
+#[derive(Clone, Copy, PartialEq, Eq, Debug, Default)]
 pub enum Section {
+    #[default]
     Sheet,
     FirstArray,
     SecondArray,
@@ -23,7 +24,7 @@ pub enum Section {
 }
 
 /// Where a reader stands, and how many lines it took.
-#[derive(Clone, Copy)]
+#[derive(Clone, Copy, PartialEq, Eq, Debug, Default)]
 pub struct Reader {
     pub section: Section,
     pub line: u32,
@@ -34,21 +35,14 @@ impl Reader {
         ensures section { result.section ≡ Sheet }
         ensures line { result.line ≡ 0 }
     {
-        Reader {
-            section: Section::Sheet,
-            line: 0,
-        }
+        Reader::default()
     }
 
     /// The number of the line that comes next; past the last that a report shows it stays.
     pub fn next_line(&self) -> u32
         ensures { result ≡ counted self.now.line }
     {
-        if self.line < LAST_LINE {
-            self.line + 1
-        } else {
-            LAST_LINE
-        }
+        self.line.saturating_add(1).min(LAST_LINE)
     }
 
     /// Takes a line and goes on to the section that it leads to, or refuses its turn.

@@ -4,6 +4,7 @@ use book::books::Book;
 use charge::composites::prime;
 use closing::memory::{ACCOUNT, CLASS, SERIES};
 use sheet::drafts::DraftSheet;
+use sheet::rows::Listing;
 use sheet::sheets::Sheet;
 use std::io;
 use terms::codes::Code;
@@ -43,13 +44,22 @@ fn cent_of(class: Code) -> AskedKey {
     }
 }
 
+fn listed(class: Code) -> Listing {
+    Listing {
+        key: cent_of(class),
+        price: 1,
+        shares: 1,
+        delta: 0,
+    }
+}
+
 /// One class in HKD and one in RMB, at 1.2.
 fn list(draft: &mut DraftSheet) -> Result<(), Fault> {
     draft.add_rate(Currency::Rmb, 12_000)?;
     draft.add_class(HKC, Currency::Hkd, None, 0)?;
     draft.add_class(RMC, Currency::Rmb, None, 0)?;
-    draft.add_series(cent_of(HKC), 1, 1, 0, [0; 16])?;
-    draft.add_series(cent_of(RMC), 1, 1, 0, [0; 16])
+    draft.add_series(listed(HKC), [0; 16])?;
+    draft.add_series(listed(RMC), [0; 16])
 }
 
 /// One HKD contract long and one RMB contract short.

@@ -2,13 +2,15 @@
 ghost use Rattle.std.specs.Prelude.{◌<◌, length};
 ghost use Rattle.book.specs.View.{view};
 
+use account::accounts::Account;
 use account::rule::{AccountReport, margin_account};
 use book::books::Book;
 use book::rows::AccountRow;
 use charge::charges::Charge;
+use std::fmt::Display;
 use std::io;
 use terms::faults::Fault;
-use terms::words::Currency;
+use terms::words::{Currency, Leg};
 
 /// What an account on a sheet of two classes should come to: class figures in the order of the codes, sums and owed in HKD and in RMB.
 #[derive(Clone, Copy)]
@@ -45,19 +47,15 @@ pub fn show_margin<C: Charge>(
 fn margined<C: Charge>(charge: &C, book: &Book, row: AccountRow) -> Result<AccountReport, Fault>
     requires { row.slot < length (view book.now).accounts }
 {
-    let mut report = AccountReport::blank();
-    let sheet = book.sheet();
-    let longs = book.longs(row.slot);
-    let shorts = book.shorts(row.slot);
-    margin_account(
-        charge,
-        &sheet,
-        row.name,
-        row.basis,
-        longs,
-        shorts,
-        &mut report,
-    )?;
+    let account = Account {
+        sheet: book.sheet(),
+        name: row.name,
+        basis: row.basis,
+        longs: book.counts(row.slot, Leg::Long),
+        shorts: book.counts(row.slot, Leg::Short),
+    };
+    let mut report = AccountReport::default();
+    margin_account(charge, &account, &mut report)?;
     Ok(report)
 }
 
@@ -70,26 +68,26 @@ fn show_report(
 ) -> io::Result<()> {
     let hkd = Currency::Hkd.number();
     let rmb = Currency::Rmb.number();
-    signed(
+    compare(
         rt,
         what,
         "first class",
         report.class_figures[0],
         wanted.figures[0],
     )?;
-    signed(
+    compare(
         rt,
         what,
         "second class",
         report.class_figures[1],
         wanted.figures[1],
     )?;
-    signed(rt, what, "HKD sum", report.sums[hkd], wanted.sums[0])?;
-    signed(rt, what, "RMB sum", report.sums[rmb], wanted.sums[1])?;
-    signed(rt, what, "value", report.value, wanted.value)?;
-    plain(rt, what, "HKD owed", report.owed[hkd], wanted.owed[0])?;
-    plain(rt, what, "RMB owed", report.owed[rmb], wanted.owed[1])?;
-    plain(
+    compare(rt, what, "HKD sum", report.sums[hkd], wanted.sums[0])?;
+    compare(rt, what, "RMB sum", report.sums[rmb], wanted.sums[1])?;
+    compare(rt, what, "value", report.value, wanted.value)?;
+    compare(rt, what, "HKD owed", report.owed[hkd], wanted.owed[0])?;
+    compare(rt, what, "RMB owed", report.owed[rmb], wanted.owed[1])?;
+    compare(
         rt,
         what,
         "requirement",
@@ -98,14 +96,14 @@ fn show_report(
     )
 }
 
-/// A figure that may be a credit.
-fn signed(rt: &HostRuntime, what: &str, figure: &str, got: i64, wanted: i64) -> io::Result<()> {
-    let verdict = if got == wanted { "agrees" } else { "DIFFERS" };
-    println!(rt; "{what}, {figure}: {got}, wanted {wanted}: {verdict}")
-}
-
-/// A figure that is never below 0.
-fn plain(rt: &HostRuntime, what: &str, figure: &str, got: u64, wanted: u64) -> io::Result<()> {
+/// A figure beside the one that is wanted.
+fn compare<T: PartialEq + Display + Copy>(
+    rt: &HostRuntime,
+    what: &str,
+    figure: &str,
+    got: T,
+    wanted: T,
+) -> io::Result<()> {
     let verdict = if got == wanted { "agrees" } else { "DIFFERS" };
     println!(rt; "{what}, {figure}: {got}, wanted {wanted}: {verdict}")
 }

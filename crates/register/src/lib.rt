@@ -1,17 +1,16 @@
 //! Rows in ascending order of key, in memory that the caller lends.
 #![tactic(auto)]
 
-ghost use Rattle.std.specs.Prelude.{◌≡◌, ℕ, ◌+◌, ◌<◌, ◌≤◌, min, List, ◌++◌, length, take, drop, nat_lt};
-ghost use Rattle.std.specs.List.{slice_get};
+ghost use Rattle.std.specs.Prelude.{◌≡◌, ℕ, ◌+◌, ◌<◌, ◌≤◌, min, List, [], ◌++◌, length, take, drop, nat_lt};
+ghost use Rattle.std.specs.List.{insert, slice_get};
 ghost use Rattle.terms.specs.Order.{order};
-ghost use Rattle.register.specs.Rows.{sought, place, inserted, Entry, Found};
+ghost use Rattle.register.specs.Rows.{sought, place, Ascending, Ascending-prop, Entry, Found};
 
-use std::cmp::Ordering;
 use terms::words::Refusal;
 
 /// A row that is found by its key; its rank is the key as a list of numbers, by which rows are ordered.
 pub trait Keyed: Copy {
-    type Key: Copy;
+    type Key: Ord + Copy;
 
     ghost rank: { Self → List ℕ };
 
@@ -20,65 +19,70 @@ pub trait Keyed: Copy {
     fn key(&self) -> Self::Key
         ensures value { wanted result ≡ rank self.now };
 
-    fn compare(&self, key: &Self::Key) -> Ordering
-        ensures value { result ≡ order (rank self.now) (wanted key.now) };
+    /// Keys compare as their numbers do.
+    ghost ordered: { (a b : Self.Key) → Self.Key.cmp a b ≡ order (wanted a) (wanted b) };
 }
 
-/// The first `len` of the lent rows are the register's; the memory past them is the lender's.
+/// The first `len` of the lent rows are the register's, in order of their keys; the memory past them is the lender's.
 #[derive(Drop)]
-pub struct Register<'a, R> {
+pub struct Register<'a, R: Keyed> {
     rows: &'a mut [R],
     len: usize,
+    ghost within: { len ≤ length rows.now },
+    ghost sorted: { Ascending R.rank (take len rows.now) } by { Ascending-prop R.rank (take len rows.now) },
 }
 
 impl<'a, R: Keyed> Register<'a, R> {
+    ghost use Rattle.register.specs.Held.{held, lent, loan};
+
     /// An empty register over the lent memory.
     pub fn new(rows: &'a mut [R]) -> Self
-        ensures empty { result.len ≡ 0 }
-        ensures lent { result.rows.now ≡ rows.old }
-        ensures same { result.rows.ghost_name ≡ rows.entry.ghost_name }
+        ensures empty { held result ≡ [] }
+        ensures lent { lent result ≡ rows.old }
+        ensures same { (loan result).ghost_name ≡ rows.entry.ghost_name }
     {
         Register { rows, len: 0 }
     }
 
     pub fn len(&self) -> usize
-        ensures value { result ≡ self.now.len }
+        ensures value { result ≡ length (held self.now) }
     {
         self.len // the memory past these is spare
     }
 
+    /// The rows, in order of their keys.
+    pub fn as_slice(&self) -> &[R]
+        ensures value { result.now ≡ held self.now }
+    {
+        &self.rows[..self.len]
+    }
+
     /// The row at a place.
     pub fn get(&self, i: usize) -> Option<R>
-        ensures value { result ≡ slice_get (take self.now.len self.now.rows.now) i }
+        ensures value { result ≡ slice_get (held self.now) i }
     {
-        let rows = &*self.rows;
-        let held = front(rows, self.len);
-        if i >= held.len() {
-            return None;
-        }
-        Some(held[i])
+        self.as_slice().get(i).copied()
     }
 
     /// The place of the row that has the key.
     pub fn find(&self, key: &R::Key) -> Option<usize>
-        ensures answer { result ≡ sought R.rank (R.wanted key.now) (take self.now.len self.now.rows.now) }
-        ensures means { Found R.rank (R.wanted key.now) (take self.now.len self.now.rows.now) result }
+        ensures answer { result ≡ sought R.rank (R.wanted key.now) (held self.now) }
+        ensures means { Found R.rank (R.wanted key.now) (held self.now) result }
     {
-        let rows = &*self.rows;
-        place_with(front(rows, self.len), key)
+        place_with(self.as_slice(), key)
     }
 
     /// Whether one more row may be put in: fewer than the limit stand there, and the lent memory has room.
     pub fn has_room(&self, limit: usize) -> bool
-        ensures value { result ≡ nat_lt (length (take self.now.len self.now.rows.now)) (min limit (length self.now.rows.now)) }
+        ensures value { result ≡ nat_lt (length (held self.now)) (min limit (length (lent self.now))) }
     {
         self.len < limit && self.len < self.rows.len()
     }
 
     /// Puts a row in its place, unless its key is there (4), or the limit or the lent room is reached (6).
     pub fn insert(&mut self, row: R, limit: usize) -> Result<usize, Refusal>
-        ensures same { self.new.rows.ghost_name ≡ self.old.rows.ghost_name }
-        ensures entry { Entry R.rank limit self.old.len self.old.rows.now row result self.new.len self.new.rows.now }
+        ensures same { (loan self.new).ghost_name ≡ (loan self.old).ghost_name }
+        ensures entry { Entry R.rank limit (held self.old) (lent self.old) row result (held self.new) (lent self.new) }
     {
         let key = row.key();
         if self.find(&key).is_some() {
@@ -87,26 +91,18 @@ impl<'a, R: Keyed> Register<'a, R> {
         if !self.has_room(limit) {
             return Err(Refusal::Full);
         }
-        let n = self.len;
-        let i = self.place(&key);
-        shift(self.rows, n, i, row);
-        self.len = n + 1;
-        Ok(i)
+        let at = place_of(self.as_slice(), &key);
+        shift(self.rows, self.len, at, row);
+        self.len += 1;
+        Ok(at)
     }
 
     /// The rows, to be read from now on.
     pub fn into_shared(self) -> &'a [R]
-        ensures value { result.now ≡ take self.entry.len self.entry.rows.now }
+        ensures value { result.now ≡ held self.entry }
     {
         let Register { rows, len } = self;
-        front(rows, len)
-    }
-
-    fn place(&self, key: &R::Key) -> usize
-        ensures value { result ≡ place R.rank (R.wanted key.now) (take self.now.len self.now.rows.now) }
-    {
-        let rows = &*self.rows;
-        place_of(front(rows, self.len), key)
+        &rows[..len]
     }
 }
 
@@ -114,47 +110,22 @@ impl<'a, R: Keyed> Register<'a, R> {
 pub fn place_with<R: Keyed>(rows: &[R], key: &R::Key) -> Option<usize>
     ensures value { result ≡ sought R.rank (R.wanted key.now) rows.now }
 {
-    for i in 0..rows.len() {
-        match rows[i].compare(key) {
-            Ordering::Equal => return Some(i),
-            _ => {}
-        }
-    }
-    None
+    rows.iter().position(|row| row.key() == *key)
 }
 
 /// How many rows stand before the key.
 fn place_of<R: Keyed>(rows: &[R], key: &R::Key) -> usize
     ensures value { result ≡ place R.rank (R.wanted key.now) rows.now }
 {
-    for i in 0..rows.len() {
-        match rows[i].compare(key) {
-            Ordering::Less => {}
-            _ => return i,
-        }
-    }
-    rows.len()
+    rows.iter().take_while(|row| row.key() < *key).count()
 }
 
-/// The first `len` rows, or all where there are fewer.
-fn front<'a, R>(rows: &'a [R], len: usize) -> &'a [R]
-    ensures value { result.now ≡ take len rows.now }
-{
-    let n = len.min(rows.len());
-    &rows[0..n]
-}
-
-/// Writes the row at `at`, and moves each row from there to `len` up by one.
+/// Moves each row from `at` to `len` up by one, and writes the new one there.
 fn shift<R: Copy>(rows: &mut [R], len: usize, at: usize, row: R)
     requires place { at ≤ len }
     requires room { len < length rows.old }
-    ensures after { rows.new ≡ inserted (take len rows.old) at row ++ drop (len + 1) rows.old }
+    ensures after { rows.new ≡ insert (take len rows.old) at row ++ drop (len + 1) rows.old }
 {
-    let mut held = row;
-    for k in at..len {
-        let old = rows[k];
-        rows[k] = held;
-        held = old;
-    }
-    rows[len] = held;
+    rows.copy_within(at..len, at + 1);
+    rows[at] = row;
 }

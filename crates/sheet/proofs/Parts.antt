@@ -11,7 +11,6 @@ use Rattle.terms.specs.Codes.{lettered}
 use Rattle.terms.specs.Words.{kind_number}
 use Rattle.terms.specs.declared.codes.Code.{Code}
 use Rattle.terms.specs.declared.words.Kind.TheVariants.{Call}
-use Rattle.register.proofs.Sorted.{sorted_from_test}
 use Rattle.register.specs.Rows.{Ascending}
 use Rattle.sheet.specs.declared.rows.Series.{Series}
 use Rattle.sheet.specs.Rows.{series_rank, series_class, of_class, before_class, through_class, through, beside, Spanned}
@@ -145,7 +144,7 @@ rising_from c (x ∷ xs) s = (
 
 pub parted : (c : Code) (rows : List Series) → Ascending series_rank rows →
     (before_class c rows ≤ through_class c rows) × (take (through_class c rows - before_class c rows) (drop (before_class c rows) rows) ≡ of_class c rows)
-parted c rows up = together (λ s. order (series_class s) (lettered c)) rows (rising_from c rows (sorted_from_test _ rows up))
+parted c rows up = together (λ s. order (series_class s) (lettered c)) rows (rising_from c rows up)
 
 pub through_within : (c : Code) (rows : List Series) → through_class c rows ≤ length rows
 through_within c rows = prefix_len-le-length (through c) rows
@@ -161,7 +160,7 @@ spanned c rows up = record {
   ordered = (parted c rows up).0;
   within = through_within c rows;
   series = (parted c rows up).1;
-  counts = λ ns e. together_beside (λ s. order (series_class s) (lettered c)) rows ns (rising_from c rows (sorted_from_test _ rows up)) e ∙ beside_is c rows ns;
+  counts = λ ns e. together_beside (λ s. order (series_class s) (lettered c)) rows ns (rising_from c rows up) e ∙ beside_is c rows ns;
 }
 
 -- what a read past the end would give, as the checker writes it

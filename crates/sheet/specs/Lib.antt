@@ -4,3 +4,4 @@ pub mod State
 pub mod View
 pub mod Given
 pub mod Plain
+pub mod Whole

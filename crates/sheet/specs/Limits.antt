@@ -11,6 +11,7 @@ use Rattle.terms.specs.declared.keys.AskedKey.{AskedKey}
 use Rattle.terms.specs.declared.keys.SeriesKey.{SeriesKey}
 use Rattle.terms.specs.declared.words.Currency.{Currency}
 use Rattle.sheet.specs.declared.rows.ClassRow.{ClassRow}
+use Rattle.sheet.specs.declared.rows.Listing.{Listing}
 use Rattle.sheet.specs.declared.rows.Series.{Series}
 
 -- a number as it was given, if it lies from a lowest to a highest
@@ -40,9 +41,9 @@ class_of code c spread minimum = cond (terms_fit code spread minimum) (Some (rec
 
 -- A series has a key inside its limits, a price of 0 to 10,000,000 cents, 1 to 99,999 shares, price × shares at most 10,000,000,
 -- and a composite delta of -100 to 100 hundredths.
-abbrev pub line_fits : AskedKey → ℤ → ℤ → ℤ → Bool
-line_fits k price shares delta =
-    key_fits k && (between_limits price 0 10000000 && (between_limits shares 1 99999 && (nat_le (up price * up shares) 10000000 && nat_le (unsigned_abs delta) 100)))
+abbrev pub line_fits : Listing → Bool
+line_fits l =
+    key_fits l.key && (between_limits l.price 0 10000000 && (between_limits l.shares 1 99999 && (nat_le (up l.price * up l.shares) 10000000 && nat_le (unsigned_abs l.delta) 100)))
 
 -- Each of the sixteen amounts of its risk array lies within 10,000,000 of zero.
 abbrev pub values_fit : List ℤ → Bool
@@ -52,8 +53,12 @@ values_fit zs = list_all (λ z. leb (unsigned_abs z) 10000000) zs
 abbrev pub keyed : AskedKey → SeriesKey
 keyed k = record { class = k.class; month = up k.month; kind = k.kind; strike = up k.strike }
 
-abbrev pub series_of : AskedKey → ℤ → ℤ → ℤ → List ℤ → Option Series
-series_of k price shares delta array = cond (line_fits k price shares delta) (Some (record { key = keyed k; price = up price; shares = up shares; delta = delta; array = array })) None
+-- the row that a listing makes with its array
+abbrev pub listed_row : Listing → List ℤ → Series
+listed_row l array = record { key = keyed l.key; price = up l.price; shares = up l.shares; delta = l.delta; array = array }
+
+abbrev pub series_of : Listing → List ℤ → Option Series
+series_of l array = cond (line_fits l) (Some (listed_row l array)) None
 
 -- ---- the same limits, of rows that stand on a sheet
 abbrev pub rates_fit : Option ℕ → ℕ → Bool
@@ -70,8 +75,12 @@ class_fits rates r = row_fits r && quoted rates r.currency
 abbrev pub asked : SeriesKey → AskedKey
 asked k = record { class = k.class; month = pos k.month; kind = k.kind; strike = pos k.strike }
 
+-- a row's line as it would be given
+abbrev pub line_of : Series → Listing
+line_of s = record { key = asked s.key; price = pos s.price; shares = pos s.shares; delta = s.delta }
+
 abbrev pub series_fits : Series → Bool
-series_fits s = line_fits (asked s.key) (pos s.price) (pos s.shares) s.delta && values_fit s.array
+series_fits s = line_fits (line_of s) && values_fit s.array
 
 -- ---- as a charge needs them
 -- each number of the list lies within n of zero

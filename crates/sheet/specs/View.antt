@@ -1,5 +1,6 @@
 -- What a draft stands for.
-use Rattle.std.specs.Prelude.{length, take}
+use Rattle.std.specs.Prelude.{length}
+use Rattle.register.specs.Held.{held, lent}
 use Rattle.sheet.specs.declared.drafts.DraftSheet.{DraftSheet}
 use Rattle.sheet.specs.State.{State}
 
@@ -7,8 +8,8 @@ use Rattle.sheet.specs.State.{State}
 abbrev pub view : DraftSheet → State
 view d = record {
   rates = d.rates;
-  classes = take d.classes.len d.classes.rows.now;
-  series = take d.series.len d.series.rows.now;
-  class_room = length d.classes.rows.now;
-  series_room = length d.series.rows.now;
+  classes = held d.classes;
+  series = held d.series;
+  class_room = length (lent d.classes);
+  series_room = length (lent d.series);
 }

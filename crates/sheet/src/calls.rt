@@ -1,18 +1,19 @@
 //! The calls that write a sheet; each refuses by itself, and a refusal alters nothing.
 ghost use Rattle.std.specs.Prelude.{◌≡◌, length, None};
-ghost use Rattle.sheet.specs.State.{Rate, Class, Listing, Step, fresh, refusal, key_fault, line_fault, values_fault};
+ghost use Rattle.terms.specs.Faults.{refusal};
+ghost use Rattle.sheet.specs.State.{Rate, Class, Listed, Step, book, entry_fault, fresh, key_fault, line_fault, values_fault};
 ghost use Rattle.sheet.specs.View.{view};
 
 use crate::drafts::DraftSheet;
 use crate::limits::{
     MOST_CLASSES, MOST_RATE, MOST_SERIES, amount, class_row, series_row, values_fit,
 };
-use crate::rows::{ClassRow, Series};
+use crate::rows::{ClassRow, Listing, Series};
 use crate::sheets::Sheet;
 use register::Register;
 use terms::codes::Code;
 use terms::faults::Fault;
-use terms::keys::{AskedKey, SeriesKey};
+use terms::keys::SeriesKey;
 use terms::words::{Currency, Layer, Refusal};
 
 impl<'a> DraftSheet<'a> {
@@ -31,12 +32,10 @@ impl<'a> DraftSheet<'a> {
     pub fn add_rate(&mut self, currency: Currency, rate: i64) -> Result<(), Fault>
         ensures after { Step (view self.old) (Rate currency rate) (refusal result) (view self.new) }
     {
-        let Some(rate) = amount(rate, 1, MOST_RATE) else {
-            return Err(Fault::new(Refusal::Limit, Layer::Book));
-        };
+        let rate = amount(rate, 1, MOST_RATE).ok_or(refused(Refusal::Limit))?;
         let i = currency.number();
         if self.rates[i] > 0 {
-            return Err(Fault::new(Refusal::Twice, Layer::Book).with_currency(currency));
+            return Err(refused(Refusal::Twice).with_currency(currency));
         }
         self.rates[i] = rate;
         Ok(())
@@ -52,64 +51,36 @@ impl<'a> DraftSheet<'a> {
     ) -> Result<(), Fault>
         ensures after { Step (view self.old) (Class code currency spread minimum) (refusal result) (view self.new) }
     {
-        let Some(row) = class_row(code, currency, spread, minimum) else {
-            return Err(Fault::new(Refusal::Limit, Layer::Book));
-        };
+        let row = class_row(code, currency, spread, minimum).ok_or(refused(Refusal::Limit))?;
         if self.classes.find(&code).is_some() {
-            return Err(Fault::new(Refusal::Twice, Layer::Book).with_class(code));
+            return Err(refused(Refusal::Twice).with_class(code));
         }
-        let i = currency.number();
-        if self.rates[i] == 0 {
-            return Err(Fault::new(Refusal::Unknown, Layer::Book).with_currency(currency));
+        if self.rates[currency.number()] == 0 {
+            return Err(refused(Refusal::Unknown).with_currency(currency));
         }
-        match self.classes.insert(row, MOST_CLASSES) {
-            Ok(_) => Ok(()),
-            Err(refused) => Err(Fault::new(refused, Layer::Book)),
-        }
+        told(self.classes.insert(row, MOST_CLASSES))
     }
 
-    /// Judges what a series' own line has, without its array: beyond its limits (3), its key there (4), its class absent (5), no room (6).
-    pub fn judge_series(
-        &self,
-        key: AskedKey,
-        price: i64,
-        shares: i64,
-        delta: i64,
-    ) -> Result<(), Fault>
-        ensures value { refusal result ≡ line_fault (view self.now) key price shares delta }
+    /// Judges a listing at its own line, without its array: beyond its limits (3), its key there (4), its class absent (5), no room (6).
+    pub fn judge_series(&self, listing: Listing) -> Result<(), Fault>
+        ensures value { refusal result ≡ line_fault (view self.now) listing }
     {
-        let Some(row) = series_row(key, price, shares, delta, [0; 16]) else {
-            return Err(Fault::new(Refusal::Limit, Layer::Book));
-        };
+        let row = series_row(&listing, [0; 16]).ok_or(refused(Refusal::Limit))?;
         self.judge_key(&row.key)?;
         if !self.series.has_room(MOST_SERIES) {
-            return Err(Fault::new(Refusal::Full, Layer::Book));
+            return Err(refused(Refusal::Full));
         }
         Ok(())
     }
 
     /// Puts a series in, with its array; refused as at its own line, and where an amount of the array is beyond its limit (3).
-    pub fn add_series(
-        &mut self,
-        key: AskedKey,
-        price: i64,
-        shares: i64,
-        delta: i64,
-        array: [i64; 16],
-    ) -> Result<(), Fault>
-        ensures after { Step (view self.old) (Listing key price shares delta array) (refusal result) (view self.new) }
+    pub fn add_series(&mut self, listing: Listing, array: [i64; 16]) -> Result<(), Fault>
+        ensures after { Step (view self.old) (Listed listing array) (refusal result) (view self.new) }
     {
-        let Some(row) = series_row(key, price, shares, delta, array) else {
-            return Err(Fault::new(Refusal::Limit, Layer::Book));
-        };
-        if !values_fit(&array) {
-            return Err(Fault::new(Refusal::Limit, Layer::Book));
-        }
+        let row = series_row(&listing, array).ok_or(refused(Refusal::Limit))?;
+        judge_amounts(&array)?;
         self.judge_key(&row.key)?;
-        match self.series.insert(row, MOST_SERIES) {
-            Ok(_) => Ok(()),
-            Err(refused) => Err(Fault::new(refused, Layer::Book)),
-        }
+        told(self.series.insert(row, MOST_SERIES))
     }
 
     /// The sheet as it is, to be read from now on.
@@ -135,10 +106,10 @@ impl<'a> DraftSheet<'a> {
         ensures value { refusal result ≡ key_fault (view self.now) key.now None }
     {
         if self.series.find(key).is_some() {
-            return Err(Fault::new(Refusal::Twice, Layer::Book).with_class(key.class));
+            return Err(refused(Refusal::Twice).with_class(key.class));
         }
         if self.classes.find(&key.class).is_none() {
-            return Err(Fault::new(Refusal::Unknown, Layer::Book).with_class(key.class));
+            return Err(refused(Refusal::Unknown).with_class(key.class));
         }
         Ok(())
     }
@@ -148,8 +119,29 @@ impl<'a> DraftSheet<'a> {
 pub fn judge_values(values: &[i64; 8]) -> Result<(), Fault>
     ensures value { refusal result ≡ values_fault values.now }
 {
+    judge_amounts(values)
+}
+
+/// Refuses amounts of which one is beyond its limit.
+fn judge_amounts(values: &[i64]) -> Result<(), Fault>
+    ensures value { refusal result ≡ values_fault values.now }
+{
     if !values_fit(values) {
-        return Err(Fault::new(Refusal::Limit, Layer::Book));
+        return Err(refused(Refusal::Limit));
     }
     Ok(())
+}
+
+/// The answer of a register, as a call tells it.
+fn told(answer: Result<usize, Refusal>) -> Result<(), Fault>
+    ensures value { refusal result ≡ entry_fault answer }
+{
+    answer.map(|_| ()).map_err(refused)
+}
+
+/// What the sheet refuses is of layer book.
+fn refused(refusal: Refusal) -> Fault
+    ensures value { result ≡ book refusal }
+{
+    Fault::new(refusal, Layer::Book)
 }

@@ -4,24 +4,15 @@ ghost use Rattle.register.specs.Rows.{Ascending};
 ghost use Rattle.sheet.specs.Rows.{series_rank, before_class, through_class, of_class, Spanned};
 
 use crate::rows::Series;
-use std::cmp::Ordering;
+use std::ops::Range;
 use terms::codes::Code;
 
-/// From one place up to, and without, another.
-#[derive(Clone, Copy)]
-pub struct Span {
-    pub from: usize,
-    pub to: usize,
-}
-
 /// Where the series of the class stand: together, since rows are in order of class first.
-pub(crate) fn span_of(rows: &[Series], code: &Code) -> Span
+pub(crate) fn span_of(rows: &[Series], code: &Code) -> Range<usize>
     requires { Ascending series_rank rows.now }
-    ensures value { Spanned code.now rows.now result.from result.to }
+    ensures value { Spanned code.now rows.now result.start result.end }
 {
-    let from = first_of(rows, code);
-    let to = end_of(rows, code);
-    Span { from, to }
+    first_of(rows, code)..end_of(rows, code)
 }
 
 /// The series of the class.
@@ -29,34 +20,19 @@ pub(crate) fn part<'a>(rows: &'a [Series], code: &Code) -> &'a [Series]
     requires { Ascending series_rank rows.now }
     ensures value { result.now ≡ of_class code.now rows.now }
 {
-    let span = span_of(rows, code);
-    let from = span.from;
-    let to = span.to;
-    &rows[from..to]
+    &rows[span_of(rows, code)]
 }
 
 /// How many rows stand before those of the class.
 fn first_of(rows: &[Series], code: &Code) -> usize
     ensures value { result ≡ before_class code.now rows.now }
 {
-    for i in 0..rows.len() {
-        match rows[i].key.class.compare(code) {
-            Ordering::Less => {}
-            _ => return i,
-        }
-    }
-    rows.len()
+    rows.iter().take_while(|row| row.key.class < *code).count()
 }
 
 /// How many rows stand before those of any later class.
 fn end_of(rows: &[Series], code: &Code) -> usize
     ensures value { result ≡ through_class code.now rows.now }
 {
-    for i in 0..rows.len() {
-        match rows[i].key.class.compare(code) {
-            Ordering::Greater => return i,
-            _ => {}
-        }
-    }
-    rows.len()
+    rows.iter().take_while(|row| row.key.class <= *code).count()
 }

@@ -1,11 +1,11 @@
-//! The rows of the sheet, each found by its key.
+//! The rows of the sheet, each found by its key, and a series as it is listed.
 ghost use Rattle.terms.specs.Codes.{lettered};
+ghost use Rattle.terms.specs.Compared.{code_order, key_order};
 ghost use Rattle.terms.specs.Keys.{figured};
 
 use register::Keyed;
-use std::cmp::Ordering;
 use terms::codes::Code;
-use terms::keys::SeriesKey;
+use terms::keys::{AskedKey, SeriesKey};
 use terms::words::Currency;
 
 /// A class: the spread rate in whole units for one delta, none where none is published, and the minimum rate in cents for one short contract.
@@ -27,6 +27,15 @@ pub struct Series {
     pub array: [i64; 16],
 }
 
+/// A series as its own line gives it: not yet held against the limits, and without its array.
+#[derive(Clone, Copy)]
+pub struct Listing {
+    pub key: AskedKey,
+    pub price: i64,
+    pub shares: i64,
+    pub delta: i64,
+}
+
 impl Keyed for ClassRow {
     type Key = Code;
 
@@ -34,12 +43,10 @@ impl Keyed for ClassRow {
 
     ghost wanted = { lettered };
 
+    ghost ordered = { code_order };
+
     fn key(&self) -> Code {
         self.code
-    }
-
-    fn compare(&self, key: &Code) -> Ordering {
-        self.code.compare(key)
     }
 }
 
@@ -50,11 +57,9 @@ impl Keyed for Series {
 
     ghost wanted = { figured };
 
+    ghost ordered = { key_order };
+
     fn key(&self) -> SeriesKey {
         self.key
-    }
-
-    fn compare(&self, key: &SeriesKey) -> Ordering {
-        self.key.compare(key)
     }
 }

@@ -10,10 +10,11 @@ ghost use Rattle.sheet.specs.Plain.{plain};
 ghost use Rattle.sheet.specs.Rows.{Spanned, class_rank, series_rank};
 
 use crate::classes::Class;
-use crate::ranges::{Span, part, span_of};
+use crate::ranges::{part, span_of};
 use crate::rows::ClassRow;
 use crate::sheets::Sheet;
 use register::place_with;
+use std::ops::Range;
 use terms::codes::Code;
 use terms::keys::SeriesKey;
 use terms::words::Currency;
@@ -45,8 +46,7 @@ impl<'a> Sheet<'a> {
     pub fn is_quoted(&self, currency: Currency) -> bool
         ensures value { result ≡ quoted self.now.rates currency }
     {
-        let rate = self.rates[currency.number()];
-        rate > 0
+        0 < self.rates[currency.number()]
     }
 
     /// The place of the class that has the code.
@@ -91,11 +91,10 @@ impl<'a> Sheet<'a> {
     }
 
     /// Where the series of the class at a place stand.
-    pub fn span(&self, i: usize) -> Span
+    pub fn span(&self, i: usize) -> Range<usize>
         requires { i < length self.now.classes.now }
-        ensures value { Spanned (class_at self.now.classes.now i).code self.now.series.now result.from result.to }
+        ensures value { Spanned (class_at self.now.classes.now i).code self.now.series.now result.start result.end }
     {
-        let row = self.classes[i];
-        span_of(self.series, &row.code)
+        span_of(self.series, &self.classes[i].code)
     }
 }

@@ -1,7 +1,5 @@
-//! Cuts what is read at its line feeds, in constant memory, and hands each line on.
+//! Cuts an input into its lines, in constant memory.
 #![tactic(auto)]
 
-pub mod buffer;
 pub mod lines;
 pub mod reading;
-pub mod taker;

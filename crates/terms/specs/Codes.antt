@@ -9,6 +9,10 @@ use Rattle.terms.specs.Words.{currency_letters}
 abbrev pub lettered : Code → List ℕ
 lettered c = c.first ∷ c.second ∷ c.third ∷ []
 
+-- three letters as a code
+abbrev pub code_of : List ℕ → Code
+code_of letters = record { first = slice_index letters 0; second = slice_index letters 1; third = slice_index letters 2 }
+
 -- A to Z
 abbrev pub capital : ℕ → Bool
 capital b = nat_le 65 b && nat_le b 90
@@ -19,7 +23,7 @@ proper c = capital c.first && (capital c.second && capital c.third)
 
 -- a currency's letters, as a code
 abbrev pub currency_code : Currency → Code
-currency_code c = record { first = slice_index (currency_letters c) 0; second = slice_index (currency_letters c) 1; third = slice_index (currency_letters c) 2 }
+currency_code c = code_of (currency_letters c)
 
 -- whether a code has the letters of a currency
 abbrev pub writes : Code → Currency → Bool

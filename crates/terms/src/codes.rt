@@ -1,12 +1,15 @@
 //! A code of three capitals: a class's, or a currency's as it is written.
-ghost use Rattle.std.specs.Prelude.{◌≡◌};
-ghost use Rattle.terms.specs.Codes.{lettered, proper, currency_code, currency_of};
-ghost use Rattle.terms.specs.Order.{order};
+ghost use Rattle.std.specs.Prelude.{◌≡◌, Some};
+ghost use Rattle.terms.specs.Codes.{proper, code_of, currency_code, currency_of};
+ghost use Rattle.terms.specs.Limits.{Gives};
+ghost use Rattle.terms.specs.Words.{currency_letters};
 
+use crate::limits::OutsideLimits;
 use crate::words::Currency;
-use std::cmp::Ordering;
+use std::fmt;
+use std::fmt::Write;
 
-#[derive(Clone, Copy, PartialEq, Eq, Debug)]
+#[derive(Clone, Copy, PartialEq, Eq, PartialOrd, Ord, Debug)]
 pub struct Code {
     pub first: u8,
     pub second: u8,
@@ -18,70 +21,78 @@ impl Code {
     pub fn is_proper(&self) -> bool
         ensures value { result ≡ proper self.now }
     {
-        self.first >= b'A'
-            && self.first <= b'Z'
-            && self.second >= b'A'
-            && self.second <= b'Z'
-            && self.third >= b'A'
-            && self.third <= b'Z'
-    }
-
-    pub fn compare(&self, other: &Code) -> Ordering
-        ensures value { result ≡ order (lettered self.now) (lettered other.now) }
-    {
-        let a = [self.first as u32, self.second as u32, self.third as u32];
-        let b = [other.first as u32, other.second as u32, other.third as u32];
-        let x: &[u32] = &a;
-        let y: &[u32] = &b;
-        x.cmp(&y)
+        self.first.is_ascii_uppercase()
+            && self.second.is_ascii_uppercase()
+            && self.third.is_ascii_uppercase()
     }
 }
 
-impl Currency {
-    /// The code that a currency is written by.
-    pub fn code(self) -> Code
-        ensures value { result ≡ currency_code self }
-    {
-        match self {
-            Currency::Hkd => Code {
-                first: b'H',
-                second: b'K',
-                third: b'D',
-            },
-            Currency::Usd => Code {
-                first: b'U',
-                second: b'S',
-                third: b'D',
-            },
-            Currency::Eur => Code {
-                first: b'E',
-                second: b'U',
-                third: b'R',
-            },
-            Currency::Jpy => Code {
-                first: b'J',
-                second: b'P',
-                third: b'Y',
-            },
-            Currency::Rmb => Code {
-                first: b'R',
-                second: b'M',
-                third: b'B',
-            },
+impl From<[u8; 3]> for Code {
+    ghost from_gives = { λ letters c. c ≡ code_of letters };
+
+    fn from(letters: [u8; 3]) -> Code {
+        let [first, second, third] = letters;
+        Code {
+            first,
+            second,
+            third,
         }
     }
+}
 
-    /// The currency that a code writes, if it is one of the five.
-    pub fn of(code: Code) -> Option<Currency>
-        ensures value { result ≡ currency_of code }
-    {
-        match (code.first as char, code.second as char, code.third as char) {
-            ('H', 'K', 'D') => Some(Currency::Hkd),
-            ('U', 'S', 'D') => Some(Currency::Usd),
-            ('E', 'U', 'R') => Some(Currency::Eur),
-            ('J', 'P', 'Y') => Some(Currency::Jpy),
-            ('R', 'M', 'B') => Some(Currency::Rmb),
-            _ => None,
+/// The code that a currency is written by.
+impl From<Currency> for Code {
+    ghost from_gives = { λ currency c. c ≡ currency_code currency };
+
+    fn from(currency: Currency) -> Code {
+        match currency {
+            Currency::Hkd => Code::from(*b"HKD"),
+            Currency::Usd => Code::from(*b"USD"),
+            Currency::Eur => Code::from(*b"EUR"),
+            Currency::Jpy => Code::from(*b"JPY"),
+            Currency::Rmb => Code::from(*b"RMB"),
         }
+    }
+}
+
+/// The currency that a code writes, if it is one of the five.
+impl TryFrom<Code> for Currency {
+    type Error = OutsideLimits;
+
+    ghost try_from_gives = { λ code r. Gives (currency_of code) r };
+
+    fn try_from(code: Code) -> Result<Currency, OutsideLimits> {
+        match (code.first as char, code.second as char, code.third as char) {
+            ('H', 'K', 'D') => Ok(Currency::Hkd),
+            ('U', 'S', 'D') => Ok(Currency::Usd),
+            ('E', 'U', 'R') => Ok(Currency::Eur),
+            ('J', 'P', 'Y') => Ok(Currency::Jpy),
+            ('R', 'M', 'B') => Ok(Currency::Rmb),
+            _ => Err(OutsideLimits),
+        }
+    }
+}
+
+impl fmt::Display for Code {
+    fn fmt<W: fmt::Write>(&self, f: &mut fmt::Formatter<W>) -> fmt::Result {
+        for letter in [self.first, self.second, self.third] {
+            f.write_char(char::from(letter))?;
+        }
+        Ok(())
+    }
+}
+
+/// A currency prints as its letters.
+impl fmt::Display for Currency {
+    ghost output = { λ c. Some (currency_letters c) };
+
+    fn fmt<W: fmt::Write>(&self, f: &mut fmt::Formatter<W>) -> fmt::Result {
+        f.write_str(match *self {
+            Currency::Hkd => "HKD",
+            Currency::Usd => "USD",
+            Currency::Eur => "EUR",
+            Currency::Jpy => "JPY",
+            Currency::Rmb => "RMB",
+        })
     }
 }

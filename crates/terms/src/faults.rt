@@ -1,10 +1,16 @@
 //! A refusal with its layer and its place.
 ghost use Rattle.std.specs.Prelude.{◌≡◌};
 ghost use Rattle.terms.specs.Faults.{refused, with_line, with_account, with_class, with_currency, with_label};
+ghost use Rattle.terms.specs.declared.words.Layer.TheVariants.{Book};
+ghost use Rattle.terms.specs.declared.words.Refusal.TheVariants.{Limit};
 
 use crate::codes::Code;
+use crate::limits::OutsideLimits;
 use crate::names::Name;
 use crate::words::{Currency, Label, Layer, Refusal};
+use std::error::Error;
+use std::fmt;
+use std::fmt::Write;
 
 /// What is at fault: each part is blank where nothing of its kind is.
 #[derive(Clone, Copy, PartialEq, Eq, Debug)]
@@ -101,3 +107,50 @@ impl Fault {
         }
     }
 }
+
+/// What is outside its limits is refused so by the sheet's and the book's calls.
+impl From<OutsideLimits> for Fault {
+    ghost from_gives = { λ _ fault. fault ≡ refused Limit Book };
+
+    fn from(_: OutsideLimits) -> Fault {
+        Fault::new(Refusal::Limit, Layer::Book)
+    }
+}
+
+/// What is at fault, each part after its word.
+impl fmt::Display for Place {
+    fn fmt<W: fmt::Write>(&self, f: &mut fmt::Formatter<W>) -> fmt::Result {
+        if let Some(account) = self.account {
+            write!(f, "; account {account}")?;
+        }
+        if let Some(class) = self.class {
+            write!(f, "; class {class}")?;
+        }
+        if let Some(currency) = self.currency {
+            write!(f, "; currency {currency}")?;
+        }
+        if let Some(label) = self.label {
+            write!(f, "; charge {label}")?;
+        }
+        Ok(())
+    }
+}
+
+/// The sentence for a person: where, which rule, which layer, and what is at fault.
+impl fmt::Display for Fault {
+    fn fmt<W: fmt::Write>(&self, f: &mut fmt::Formatter<W>) -> fmt::Result {
+        match self.place.line {
+            Some(line) => write!(f, "line {line}: ")?,
+            None => write!(f, "at the report: ")?,
+        }
+        let number = self.refusal.number();
+        let Fault {
+            refusal,
+            layer,
+            place,
+        } = *self;
+        write!(f, "refused {number} {refusal} (layer {layer}){place}.")
+    }
+}
+
+impl Error for Fault {}

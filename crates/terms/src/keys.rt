@@ -1,11 +1,11 @@
 //! The key of a series: class, month, kind, strike.
 ghost use Rattle.std.specs.Prelude.{◌≡◌};
-ghost use Rattle.terms.specs.Keys.{figured, key_of};
-ghost use Rattle.terms.specs.Order.{order};
+ghost use Rattle.terms.specs.Keys.{key_of};
+ghost use Rattle.terms.specs.Limits.{Gives};
 
 use crate::codes::Code;
+use crate::limits::OutsideLimits;
 use crate::words::Kind;
-use std::cmp::Ordering;
 
 /// A series as a caller names it: its numbers as given, not yet held against their limits.
 #[derive(Clone, Copy, PartialEq, Eq, Debug)]
@@ -17,7 +17,7 @@ pub struct AskedKey {
 }
 
 /// The key by which a series stands on a sheet.
-#[derive(Clone, Copy, PartialEq, Eq, Debug)]
+#[derive(Clone, Copy, PartialEq, Eq, PartialOrd, Ord, Debug)]
 pub struct SeriesKey {
     pub class: Code,
     pub month: u32,
@@ -25,55 +25,31 @@ pub struct SeriesKey {
     pub strike: u32,
 }
 
-impl AskedKey {
-    /// The key, if its class is three capitals, its month a month of 2000 to 2099, and its strike 1 to 99,999,999 cents.
-    pub fn within(&self) -> Option<SeriesKey>
-        ensures value { result ≡ key_of self.now }
-    {
-        if !self.class.is_proper() {
-            return None;
+/// The key, if its class is three capitals, its month a month of 2000 to 2099, and its strike 1 to 99,999,999 cents.
+impl TryFrom<AskedKey> for SeriesKey {
+    type Error = OutsideLimits;
+
+    ghost try_from_gives = { λ asked r. Gives (key_of asked) r };
+
+    fn try_from(asked: AskedKey) -> Result<SeriesKey, OutsideLimits> {
+        if !asked.class.is_proper() {
+            return Err(OutsideLimits);
         }
-        if self.month < 200_001 || self.month > 209_912 {
-            return None;
+        if asked.month < 200_001 || asked.month > 209_912 {
+            return Err(OutsideLimits);
         }
-        let month = self.month as u32;
+        let month = asked.month as u32;
         if month % 100 < 1 || month % 100 > 12 {
-            return None;
+            return Err(OutsideLimits);
         }
-        if self.strike < 1 || self.strike > 99_999_999 {
-            return None;
+        if asked.strike < 1 || asked.strike > 99_999_999 {
+            return Err(OutsideLimits);
         }
-        Some(SeriesKey {
-            class: self.class,
+        Ok(SeriesKey {
+            class: asked.class,
             month,
-            kind: self.kind,
-            strike: self.strike as u32,
+            kind: asked.kind,
+            strike: asked.strike as u32,
         })
-    }
-}
-
-impl SeriesKey {
-    pub fn compare(&self, other: &SeriesKey) -> Ordering
-        ensures value { result ≡ order (figured self.now) (figured other.now) }
-    {
-        let a = self.figures();
-        let b = other.figures();
-        let x: &[u32] = &a;
-        let y: &[u32] = &b;
-        x.cmp(&y)
-    }
-
-    /// The parts of the key as numbers, in the order in which they are compared.
-    fn figures(&self) -> [u32; 6]
-        ensures value { result ≡ figured self.now }
-    {
-        [
-            self.class.first as u32,
-            self.class.second as u32,
-            self.class.third as u32,
-            self.month,
-            self.kind.number(),
-            self.strike,
-        ]
     }
 }

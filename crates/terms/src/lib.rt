@@ -4,5 +4,7 @@
 pub mod codes;
 pub mod faults;
 pub mod keys;
+pub mod letters;
+pub mod limits;
 pub mod names;
 pub mod words;

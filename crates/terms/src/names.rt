@@ -1,55 +1,46 @@
 //! An account's name: 1 to 20 capitals, digits, hyphens and inner blanks.
-ghost use Rattle.std.specs.Prelude.{◌≡◌, ◌==◌, ◌≤◌, ◌++◌, length, drop, Decides};
+ghost use Rattle.std.specs.Prelude.{◌≡◌, ◌≤◌, ◌++◌, length, drop};
 ghost use Rattle.std.specs.List.{list_all};
-ghost use Rattle.terms.specs.Names.{name_byte, name_form, named, filled_out, spelled};
-ghost use Rattle.terms.specs.Order.{order};
-ghost use Rattle.std.specs.Cmp.Rules.{comparing};
-ghost use Rattle.std.specs.Ordering.{on};
-ghost use Rattle.std.specs.Cmp.Lexicographic.{pointwise};
-ghost use Rattle.std.proofs.Common.{rules};
+ghost use Rattle.terms.specs.Names.{name_byte, name_form, named};
+ghost use Rattle.terms.specs.Limits.{Gives};
 
-use std::cmp::Ordering;
+use crate::limits::OutsideLimits;
+use std::fmt;
+use std::fmt::Write;
+use std::str::from_utf8;
 
 /// How many characters a name may have.
 pub const NAME_WIDTH: usize = 20;
 
 /// A name, filled with blanks at its right.
-#[derive(Clone, Copy, Eq, Debug)]
+#[derive(Clone, Copy, PartialEq, Eq, PartialOrd, Ord, Debug)]
 pub struct Name {
     pub text: [u8; 20],
 }
 
-impl PartialEq for Name {
-    ghost eq = { on (λ n. n.text) (pointwise ◌==◌) };
+/// The name that a text spells, if it has a name's form.
+impl<'a> TryFrom<&'a [u8]> for Name {
+    type Error = OutsideLimits;
 
-    ghost laws = { Prim.search (comparing, rules) };
+    ghost try_from_gives = { λ text r. Gives (named text.now) r };
 
-    fn eq(&self, other: &Name) -> bool
-        ensures decides { Decides result (self.now ≡ other.now) }
-    {
-        self.text == other.text
-    }
-}
-
-impl Name {
-    /// The name that a text spells, if it has a name's form.
-    pub fn of(text: &[u8]) -> Option<Name>
-        ensures value { result ≡ named text.now }
-    {
+    fn try_from(text: &'a [u8]) -> Result<Name, OutsideLimits> {
         if !has_form(text) {
-            return None;
+            return Err(OutsideLimits);
         }
         let mut filled = [b' '; 20];
         write_front(&mut filled, text);
-        Some(Name { text: filled })
+        Ok(Name { text: filled })
     }
+}
 
-    pub fn compare(&self, other: &Name) -> Ordering
-        ensures value { result ≡ order (spelled self.now) (spelled other.now) }
-    {
-        let x: &[u8] = &self.text;
-        let y: &[u8] = &other.text;
-        x.cmp(&y)
+/// The name without the blanks at its right.
+impl fmt::Display for Name {
+    fn fmt<W: fmt::Write>(&self, f: &mut fmt::Formatter<W>) -> fmt::Result {
+        match from_utf8(&self.text) {
+            Ok(text) => f.write_str(text.trim_end()),
+            Err(_) => Err(fmt::Error),
+        }
     }
 }
 
@@ -64,12 +55,7 @@ pub fn is_name_byte(b: u8) -> bool
 fn all_name_bytes(text: &[u8]) -> bool
     ensures value { result ≡ list_all name_byte text.now }
 {
-    for b in text {
-        if !is_name_byte(*b) {
-            return false;
-        }
-    }
-    true
+    text.iter().all(|b| is_name_byte(*b))
 }
 
 /// Whether a text has a name's form.

@@ -1,6 +1,9 @@
-//! The closed lists of the subject, each with its number and its written letter.
+//! The closed lists of the subject, each with its number.
 ghost use Rattle.std.specs.Prelude.{◌≡◌, ◌<◌};
-ghost use Rattle.terms.specs.Words.{currency_number, side_number, side_letter, basis_letter, leg_number, leg_letter, kind_number, kind_letter, refusal_number, layer_number, label_number};
+ghost use Rattle.terms.specs.Words.{currency_number, side_number, leg_number, kind_number, refusal_number, layer_number, label_number};
+
+use std::fmt;
+use std::fmt::Write;
 
 /// The five currencies, in their order.
 #[derive(Clone, Copy, PartialEq, Eq, Debug)]
@@ -13,17 +16,20 @@ pub enum Currency {
 }
 
 impl Currency {
+    /// All five, each at the place of its number.
+    pub const ALL: [Currency; 5] = [
+        Currency::Hkd,
+        Currency::Usd,
+        Currency::Eur,
+        Currency::Jpy,
+        Currency::Rmb,
+    ];
+
     pub fn number(self) -> usize
         ensures value { result ≡ currency_number self }
         ensures bound { result < 5 }
     {
-        match self {
-            Currency::Hkd => 0,
-            Currency::Usd => 1,
-            Currency::Eur => 2,
-            Currency::Jpy => 3,
-            Currency::Rmb => 4,
-        }
+        self as usize // the place in ALL
     }
 }
 
@@ -39,19 +45,7 @@ impl Side {
         ensures value { result ≡ side_number self }
         ensures bound { result < 2 }
     {
-        match self {
-            Side::Client => 0,
-            Side::House => 1,
-        }
-    }
-
-    pub fn letter(self) -> u8
-        ensures value { result ≡ side_letter self }
-    {
-        match self {
-            Side::Client => b'C',
-            Side::House => b'H',
-        }
+        self as usize
     }
 }
 
@@ -60,17 +54,6 @@ impl Side {
 pub enum Basis {
     Gross,
     Net,
-}
-
-impl Basis {
-    pub fn letter(self) -> u8
-        ensures value { result ≡ basis_letter self }
-    {
-        match self {
-            Basis::Gross => b'G',
-            Basis::Net => b'N',
-        }
-    }
 }
 
 /// The long or the short count of a series.
@@ -85,24 +68,12 @@ impl Leg {
         ensures value { result ≡ leg_number self }
         ensures bound { result < 2 }
     {
-        match self {
-            Leg::Long => 0,
-            Leg::Short => 1,
-        }
-    }
-
-    pub fn letter(self) -> u8
-        ensures value { result ≡ leg_letter self }
-    {
-        match self {
-            Leg::Long => b'L',
-            Leg::Short => b'S',
-        }
+        self as usize
     }
 }
 
 /// Call or put; a call comes first.
-#[derive(Clone, Copy, PartialEq, Eq, Debug)]
+#[derive(Clone, Copy, PartialEq, Eq, PartialOrd, Ord, Debug)]
 pub enum Kind {
     Call,
     Put,
@@ -112,26 +83,14 @@ impl Kind {
     pub fn number(self) -> u32
         ensures value { result ≡ kind_number self }
     {
-        match self {
-            Kind::Call => 0,
-            Kind::Put => 1,
-        }
-    }
-
-    pub fn letter(self) -> u8
-        ensures value { result ≡ kind_letter self }
-    {
-        match self {
-            Kind::Call => b'C',
-            Kind::Put => b'P',
-        }
+        self as u32
     }
 }
 
 /// Why something is refused: ten rows, of which the earliest that fits decides.
-#[derive(Clone, Copy, PartialEq, Eq, Debug)]
+#[derive(Clone, Copy, PartialEq, Eq, PartialOrd, Ord, Debug)]
 pub enum Refusal {
-    BadLine,
+    BadLine = 1,
     Turn,
     Limit,
     Twice,
@@ -147,25 +106,35 @@ impl Refusal {
     pub fn number(self) -> u32
         ensures value { result ≡ refusal_number self }
     {
-        match self {
-            Refusal::BadLine => 1,
-            Refusal::Turn => 2,
-            Refusal::Limit => 3,
-            Refusal::Twice => 4,
-            Refusal::Unknown => 5,
-            Refusal::Full => 6,
-            Refusal::NotHeld => 7,
-            Refusal::Ceiling => 8,
-            Refusal::TooLarge => 9,
-            Refusal::Notice => 10,
-        }
+        self as u32
+    }
+}
+
+/// The rule that refused, for a person.
+impl fmt::Display for Refusal {
+    fn fmt<W: fmt::Write>(&self, f: &mut fmt::Formatter<W>) -> fmt::Result {
+        f.write_str(match self {
+            Refusal::BadLine => "BAD-LINE: the line is no record's form, or lacks its line feed",
+            Refusal::Turn => "TURN: this kind of line is not due here, or the input ends before E",
+            Refusal::Limit =>
+                "LIMIT: a field, a position or price times shares is outside its limits, or a move names one account twice",
+            Refusal::Twice => "TWICE: the key is there already",
+            Refusal::Unknown => "UNKNOWN: a name, class, series or currency is not there",
+            Refusal::Full => "FULL: no more rows or lines are taken",
+            Refusal::NotHeld => "NOT-HELD: fewer contracts are there than are taken",
+            Refusal::Ceiling =>
+                "CEILING: a count would pass 100,000, or collateral 10,000,000,000,000 cents",
+            Refusal::TooLarge => "TOO-LARGE: a figure passes 100,000,000,000 cents in size",
+            Refusal::Notice =>
+                "NOTICE: a notice is out where none may be, or is not out where it is ended",
+        })
     }
 }
 
 /// Which layer refused.
 #[derive(Clone, Copy, PartialEq, Eq, Debug)]
 pub enum Layer {
-    Line,
+    Line = 1,
     Book,
     Account,
     Charge,
@@ -175,12 +144,19 @@ impl Layer {
     pub fn number(self) -> u32
         ensures value { result ≡ layer_number self }
     {
-        match self {
-            Layer::Line => 1,
-            Layer::Book => 2,
-            Layer::Account => 3,
-            Layer::Charge => 4,
-        }
+        self as u32
+    }
+}
+
+/// The layer, for a person.
+impl fmt::Display for Layer {
+    fn fmt<W: fmt::Write>(&self, f: &mut fmt::Formatter<W>) -> fmt::Result {
+        f.write_str(match self {
+            Layer::Line => "line",
+            Layer::Book => "book",
+            Layer::Account => "account",
+            Layer::Charge => "charge",
+        })
     }
 }
 
@@ -207,5 +183,19 @@ impl Label {
             Label::Greater => 5,
             Label::Other(number) => number,
         }
+    }
+}
+
+/// The charge, for a person.
+impl fmt::Display for Label {
+    fn fmt<W: fmt::Write>(&self, f: &mut fmt::Formatter<W>) -> fmt::Result {
+        f.write_str(match self {
+            Label::Scanning => "scanning",
+            Label::Spread => "spread",
+            Label::Minimum => "minimum",
+            Label::Sum => "sum",
+            Label::Greater => "greater",
+            Label::Other(_) => "of its own",
+        })
     }
 }

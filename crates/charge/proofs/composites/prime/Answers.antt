@@ -1,4 +1,4 @@
-use Rattle.charge.specs.Lawful.{prime_lawful}
+use Rattle.charge.proofs.Theorems.{prime_lawful}
 use Rattle.charge.proofs.composites.prime.Goals as goal
 
 pub returns : goal.returns

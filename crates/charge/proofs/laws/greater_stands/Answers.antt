@@ -1,4 +1,4 @@
-use Rattle.charge.specs.Lawful.{greater_law}
+use Rattle.charge.proofs.Theorems.{greater_law}
 use Rattle.charge.proofs.laws.greater_stands.Goals as goal
 
 pub returns : goal.returns

@@ -1,4 +1,4 @@
-use Rattle.charge.specs.Lawful.{scanning_law}
+use Rattle.charge.proofs.Theorems.{scanning_law}
 use Rattle.charge.proofs.laws.scanning_stands.Goals as goal
 
 pub returns : goal.returns

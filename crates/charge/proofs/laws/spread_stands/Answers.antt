@@ -1,4 +1,4 @@
-use Rattle.charge.specs.Lawful.{spread_law}
+use Rattle.charge.proofs.Theorems.{spread_law}
 use Rattle.charge.proofs.laws.spread_stands.Goals as goal
 
 pub returns : goal.returns

@@ -1,33 +1,26 @@
-use Rattle.std.proofs.Common.{length, get_or, pos, arith, w64, SFits, rules}
-use Rattle.std.proofs.lemmas.List.{at_drop_more, at_drop_all}
-use Rattle.std.proofs.lemmas.Int.{to_z-of_z}
-use Rattle.charge.specs.Dots.{fits_parts}
+use Rattle.std.proofs.Common.{◌≡◌, ◌*◌, ◌≤◌, rules, tests, List, [], ◌∷◌, suc, length, ℤ, nat_abs, arith}
+use Rattle.std.proofs.iter.runs.Made.{chains}
+use Rattle.std.proofs.lemmas.Iterator.{YieldsList-from_slice, YieldsList-from_map}
+use Rattle.std.proofs.lemmas.Iterator.Consumers.{YieldsList-at, fits_by_from_yields_list}
+use Rattle.std.proofs.lemmas.List.Sums.{sum_by-cons}
+use Rattle.sheet.specs.Limits.{Within}
+use Rattle.charge.specs.declared.positions.Position.{Position}
+use Rattle.charge.proofs.Dots.{fits_parts}
 use Rattle.example.specs.Flat.{gross}
 use Rattle.example.proofs.flat.gross_of.Goals as goal
 
-pub size_of-sum-requires : goal.size_of-sum-requires
-size_of-sum-requires c =
-    let p = (fits_parts (length c.args.class.now.series.now) c.args.position.now c.requires).1 c.loop-i.i in
-    let f : SFits w64 (get_or c.args.position.now c.loop-i.i (pos 0)) = search rules in
-    rw (to_z-of_z w64 _ f) p
+gross_bound : (p : List ℤ) → Within 3200000 p → gross p ≤ length p * 3200000
+gross_bound [] w = omega arith
+gross_bound (n ∷ p) w = let h : nat_abs n ≤ 3200000 = w 0 in omega (arith, gross_bound p (λ i. w (suc i)), sum_by-cons nat_abs n p)
 
-pub overflow_add-sum : goal.overflow_add-sum
-overflow_add-sum c =
-    let p = (fits_parts (length c.args.class.now.series.now) c.args.position.now c.requires).1 c.loop-i.i in
-    let f : SFits w64 (get_or c.args.position.now c.loop-i.i (pos 0)) = search rules in
-    let v = rw (to_z-of_z w64 _ f) at c.size_of-sum.ensures.value in
-    omega (arith, c.loop-i.invariant.0, v, p, c.loop-i-test.true, c.args.class.now.inside.2)
+most : (p : Position) → gross p.counts.now ≤ 409600000
+most p =
+    let parts = fits_parts (length p.class.now.series.now) p.counts.now p.fits_class in
+    omega (arith, gross_bound p.counts.now parts.1, p.class.now.inside.2)
 
-pub loop-i-preserved : goal.loop-i-preserved
-loop-i-preserved c =
-    let p = fits_parts (length c.args.class.now.series.now) c.args.position.now c.requires in
-    let f : SFits w64 (get_or c.args.position.now c.loop-i.i (pos 0)) = search rules in
-    let v = rw (to_z-of_z w64 _ f) at c.size_of-sum.ensures.value in
-    let e = at_drop_more gross c.args.position.now c.loop-i.i (pos 0) (omega (arith, p.0, c.loop-i-test.true)) in
-    (omega (arith, c.loop-i.invariant.0, v, p.1 c.loop-i.i), omega (arith, c.loop-i.invariant.1, e, v))
+pub sum-requires-clause-fits : goal.sum-requires-clause-fits
+sum-requires-clause-fits c =
+    fits_by_from_yields_list nat_abs c.args.position.now.counts.now c.map.result _ (YieldsList-from_map _ nat_abs (YieldsList-at c.map.ensures.source (YieldsList-from_slice c.args.position.now.counts.now (cc))) c.map.ensures.closure (λ x r q k. search (rules, tests))) (omega (arith, most c.args.position.now))
 
-pub returns : goal.returns
-returns c =
-    let p = fits_parts (length c.args.class.now.series.now) c.args.position.now c.requires in
-    let e = at_drop_all gross c.args.position.now c.loop-i.i (omega (arith, p.0, c.loop-i-test.false)) in
-    record { value = omega (arith, c.loop-i.invariant.1, e); bound = omega (arith, c.loop-i.invariant.0, c.args.class.now.inside.2) }
+pub returns-clause-bound : goal.returns-clause-bound
+returns-clause-bound c = let e : c.sum.result ≡ gross c.args.position.now.counts.now = search (rules, chains) in omega (arith, most c.args.position.now)

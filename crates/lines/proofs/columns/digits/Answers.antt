@@ -1,40 +1,36 @@
-use Rattle.std.proofs.Common.{◌≡◌, length, arith, below_more}
-use Rattle.lines.proofs.Decimal.{not_empty, not_leading, is_figure, value_step, bound_step, bound_room, bound_whole, whole, zero_is}
+use Rattle.std.proofs.Common.{◌≡◌, ◌<◌, length, get_or, arith}
+use Rattle.std.specs.Int.{IsInRange}
+use Rattle.std.proofs.lemmas.Bool.Decides.{nat_tests}
+use Rattle.lines.proofs.Decimal.{some, no_zero, figure, below, more_figures, more_value, whole}
 use Rattle.lines.proofs.columns.digits.Goals as goal
 
-pub returns-then-text-eq0 : goal.returns-then-text-eq0
-returns-then-text-eq0 c n h e = not_empty c.args.text.now n h e c.if-text-eq0.true
+pub returns-in-empty : goal.returns-in-empty
+returns-in-empty c n h e = let l : 0 < length c.args.text.now = rw e (some n h) in omega arith
 
-pub returns-then-text-eq1 : goal.returns-then-text-eq1
-returns-then-text-eq1 c =
-    let l : length c.args.text.now ≡ 1 = c.if-text-eq1.true in
-    (zero_is c.args.text.now l c.if-text-eq48.true, omega arith)
+pub returns-in-empty-2 : goal.returns-in-empty-2
+returns-in-empty-2 c n h e = let z : get_or c.args.text.now 0 0 ≡ 48 → length c.args.text.now < 2 = rw e (no_zero n h) in omega arith
 
-pub returns-else-text-eq1 : goal.returns-else-text-eq1
-returns-else-text-eq1 c n h e = not_leading c.args.text.now n h e (omega arith) c.if-text-eq48.true
-
-pub returns-then-d-lt48 : goal.returns-then-d-lt48
-returns-then-d-lt48 c n h e = omega (arith, (is_figure c.args.text.now n c.loop-c.c-index h e c.loop-c-test.true).0)
-
-pub returns-then-d-gt57 : goal.returns-then-d-gt57
-returns-then-d-gt57 c n h e = omega (arith, (is_figure c.args.text.now n c.loop-c.c-index h e c.loop-c-test.true).1)
+pub returns-then-not-is_ascii_digit : goal.returns-then-not-is_ascii_digit
+returns-then-not-is_ascii_digit c n h e =
+    let r : IsInRange 48 57 (get_or c.args.text.now c.loop-c.c-index 0) = rw e (figure n c.loop-c.c-index h (rw e at c.loop-c-test.true)) in
+    grind (arith, nat_tests)
 
 pub overflow_mul-n : goal.overflow_mul-n
-overflow_mul-n c = omega (arith, bound_room c.loop-c.n c.loop-c.c-index c.loop-c.invariant.1 (omega arith))
+overflow_mul-n c = omega (arith, below c.args.text.now c.loop-c.c-index c.loop-c.invariant.figures 12)
 
 pub overflow_add-n : goal.overflow_add-n
-overflow_add-n c = omega (arith, bound_room c.loop-c.n c.loop-c.c-index c.loop-c.invariant.1 (omega arith))
+overflow_add-n c = omega (arith, below c.args.text.now c.loop-c.c-index c.loop-c.invariant.figures 12)
 
 pub loop-c-preserved : goal.loop-c-preserved
-loop-c-preserved c = (
-  value_step c.args.text.now c.loop-c.c-index c.loop-c.n c.loop-c-test.true c.loop-c.invariant.0 c.if-d-lt48.false c.if-d-gt57.false,
-  bound_step c.loop-c.n c.loop-c.c-index _ c.loop-c.invariant.1 (omega arith),
-  below_more _ _ c.loop-c.invariant.2 (c.if-d-lt48.false, c.if-d-gt57.false),
-)
+loop-c-preserved c =
+    let r : IsInRange 48 57 (get_or c.args.text.now c.loop-c.c-index 0) = grind (arith, nat_tests) in
+    record {
+      figures = more_figures c.args.text.now c.loop-c.c-index c.loop-c.invariant.figures c.loop-c-test.true r;
+      value = rw (c.from.ensures, c.loop-c.invariant.value) (more_value c.args.text.now c.loop-c.c-index c.loop-c.invariant.figures c.loop-c-test.true r);
+    }
 
 pub returns : goal.returns
-returns c = (
-  whole c.args.text.now c.loop-c.n c.loop-c.c-index c.loop-c-test.false (omega arith) c.loop-c.invariant.0 c.loop-c.invariant.1
-      (λ k h. c.loop-c.invariant.2 k (omega arith)) (omega arith) (λ z. absurd (c.if-text-eq48.false z)),
-  bound_whole _ _ c.loop-c.invariant.1 (omega arith),
-)
+returns c =
+    let b = below c.args.text.now c.loop-c.c-index c.loop-c.invariant.figures 13 (omega arith) (omega arith) in
+    let w = whole c.args.text.now c.loop-c.c-index c.loop-c.invariant.figures c.loop-c-test.false (grind arith) (λ z. grind arith) (omega arith) in
+    rw c.loop-c.invariant.value (w, b)

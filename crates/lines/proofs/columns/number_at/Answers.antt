@@ -1,15 +1,14 @@
-use Rattle.std.proofs.Common.{w64, SFits, rules}
-use Rattle.std.proofs.lemmas.Int.{to_z-of_z}
-use Rattle.lines.proofs.Signs.{number_alien, number_isnt, number_front}
+use Rattle.std.proofs.Common.{rules}
+use Rattle.lines.specs.Columns.{column, Fits}
+use Rattle.lines.proofs.Fields.{uncut, unread, read}
+use Rattle.lines.proofs.Justified.{length-column}
 use Rattle.lines.proofs.columns.number_at.Goals as goal
 
 pub returns-in_err-field : goal.returns-in_err-field
-returns-in_err-field c = rw c.from_residual.ensures (number_alien _ _ c.in_err-field.ensures)
+returns-in_err-field c = search (rules, uncut column Fits length-column)
 
-pub returns-in_err-z : goal.returns-in_err-z
-returns-in_err-z c = rw c.from_residual-in_err-z.ensures (number_isnt _ _ _ _ c.in_ok-field.ensures c.in_err-z.ensures)
+pub returns-in_err-number : goal.returns-in_err-number
+returns-in_err-number c = search (rules, unread column Fits length-column)
 
 pub returns : goal.returns
-returns c =
-    let f : SFits w64 c.in_ok-z.z = search rules in
-    simp to_z-of_z (number_front _ _ _ _ _ c.in_ok-field.ensures c.in_ok-z.ensures)
+returns c = search (rules, read column Fits length-column c.in_ok-field.ensures c.in_ok-number.ensures)

@@ -1,11 +1,13 @@
-use Rattle.lines.proofs.Trims.{name_alien, name_none, name_front}
+use Rattle.lines.specs.Columns.{left, Spelled}
+use Rattle.lines.proofs.Fields.{alien, front_is, front_isnt}
+use Rattle.lines.proofs.Trims.{wide}
 use Rattle.lines.proofs.names.name_at.Goals as goal
 
 pub returns-in_err-field : goal.returns-in_err-field
-returns-in_err-field c = rw c.from_residual.ensures (name_alien _ c.in_err-field.ensures)
+returns-in_err-field c = rw c.from_residual.ensures (alien (left 20) Spelled 20 wide c.in_err-field.ensures)
 
-pub returns-in_err-name : goal.returns-in_err-name
-returns-in_err-name c = rw c.from_residual-in_err-name.ensures (name_none _ _ _ c.in_ok-field.ensures c.in_err-name.ensures)
+pub returns-in_err-name_of : goal.returns-in_err-name_of
+returns-in_err-name_of c = rw c.from_residual-in_err-name_of.ensures (front_isnt (left 20) Spelled 20 wide c.in_ok-field.ensures c.in_err-name_of.ensures)
 
 pub returns : goal.returns
-returns c = name_front _ _ _ _ c.in_ok-field.ensures c.in_ok-name.ensures
+returns c = front_is (left 20) Spelled 20 wide c.in_ok-field.ensures c.in_ok-name_of.ensures

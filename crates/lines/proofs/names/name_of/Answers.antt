@@ -1,13 +1,9 @@
-use Rattle.std.proofs.Common.{◌-◌, sym, ◌∙◌, arith}
-use Rattle.lines.proofs.Trims.{name_isnt, name_is}
+use Rattle.std.proofs.Common.{sym, ◌∙◌}
+use Rattle.lines.proofs.Trims.{name_is, name_isnt}
 use Rattle.lines.proofs.names.name_of.Goals as goal
 
-pub returns-in-Some : goal.returns-in-Some
-returns-in-Some c =
-    name_is _ c.trimmed-n.result c.trimmed-n.ensures.within c.trimmed-n.ensures.after c.trimmed-n.ensures.stops _ (omega arith) c.requires c.in-Some.field-0
-    (sym c.of.ensures.value ∙ c.in-Some.is)
+pub returns-in_err-ok : goal.returns-in_err-ok
+returns-in_err-ok c = rw c.from_residual.ensures (name_isnt c.args.field.now (rw c.blanks_behind.ensures.value at (sym (c.ok.ensures.value ∙ c.try_from.ensures) ∙ c.in_err-ok.was)))
 
-pub returns-in-None : goal.returns-in-None
-returns-in-None c =
-    name_isnt _ c.trimmed-n.result c.trimmed-n.ensures.within c.trimmed-n.ensures.after c.trimmed-n.ensures.stops (c.trimmed-n.result - 0) (omega arith)
-    (sym c.of.ensures.value ∙ c.in-None.is)
+pub returns : goal.returns
+returns c = rw c.blanks_behind.ensures.value (name_is c.args.field.now c.in_ok-ok.field-0 c.requires (rw c.blanks_behind.ensures.value at (sym (c.ok.ensures.value ∙ c.try_from.ensures) ∙ c.in_ok-ok.was)))

@@ -1,25 +1,26 @@
 use Rattle.std.proofs.Common.{refl, ◌∙◌, arith, w64, SFits, rules}
 use Rattle.std.proofs.lemmas.Int.{to_z-of_z}
-use Rattle.std.proofs.lemmas.List.{take_more_set, length-set, length-take-le}
-use Rattle.lines.proofs.Rows.{rows_none, rows_more, rows_alien, rows_end, rows_no_end}
+use Rattle.std.proofs.lemmas.List.{take_more_set, length-set, length-take-le, take_all}
+use Rattle.lines.proofs.Rows.{rows_more, rows_alien, rows_longer, rows_are}
 use Rattle.lines.proofs.record.read_array.Goals as goal
 
-pub loop-k-init : goal.loop-k-init
-loop-k-init c = (rows_none _ _ refl, refl)
+pub loop-value-preserved : goal.loop-value-preserved
+loop-value-preserved c =
+    let f : SFits w64 c.in_ok-value.field-0-0 = search rules in
+    simp to_z-of_z (record {
+      read = rw (take_more_set c.loop-value.value-items c.loop-value.value-index c.in_ok-value.field-0-0 (omega arith)) (rows_more c.loop-value.invariant.read c.in_ok-value.ensures);
+      eight = length-set c.loop-value.value-items c.loop-value.value-index c.in_ok-value.field-0-0 ∙ c.loop-value.invariant.eight;
+    })
 
-pub returns-in_err-z : goal.returns-in_err-z
-returns-in_err-z c = rw c.from_residual.ensures (rows_alien _ _ _ c.loop-k.invariant.0 c.in_err-z.ensures (omega (arith, length-take-le c.loop-k.k c.loop-k.found (omega arith))), refl)
+pub returns-in_err-value : goal.returns-in_err-value
+returns-in_err-value c = rw c.from_residual.ensures (rows_alien c.loop-value.invariant.read (omega (arith, length-take-le c.loop-value.value-index c.loop-value.value-items (omega arith))) c.in_err-value.ensures, refl)
 
-pub loop-k-preserved : goal.loop-k-preserved
-loop-k-preserved c =
-    let f : SFits w64 c.in_ok-z.z = search rules in
-    simp to_z-of_z (
-      rw (take_more_set c.loop-k.found c.loop-k.k c.in_ok-z.z (omega arith)) (rows_more _ _ _ _ _ c.loop-k.invariant.0 c.in_ok-z.ensures),
-      length-set c.loop-k.found c.loop-k.k c.in_ok-z.z ∙ c.loop-k.invariant.1,
-    )
+pub returns-in_err-ended : goal.returns-in_err-ended
+returns-in_err-ended c =
+    let read = rw (take_all c.loop-value.value-index c.loop-value.value-items (omega arith)) at c.loop-value.invariant.read in
+    rw c.from_residual-in_err-ended.ensures (rows_longer read c.loop-value.invariant.eight c.in_err-ended.ensures, refl)
 
-pub returns-then-is_end : goal.returns-then-is_end
-returns-then-is_end c = (rows_end _ c.loop-k.found c.loop-k.k _ c.loop-k.invariant.0 c.loop-k.invariant.1 c.loop-k-test.false c.if-is_end.ensures, tt)
-
-pub returns-else-is_end : goal.returns-else-is_end
-returns-else-is_end c = (rows_no_end _ c.loop-k.found c.loop-k.k _ c.loop-k.invariant.0 c.loop-k.invariant.1 c.loop-k-test.false c.if-is_end.ensures, refl)
+pub returns : goal.returns
+returns c =
+    let read = rw (take_all c.loop-value.value-index c.loop-value.value-items (omega arith)) at c.loop-value.invariant.read in
+    (rows_are read c.loop-value.invariant.eight c.in_ok-ended.ensures, tt)

@@ -2,5 +2,5 @@ use Rattle.std.proofs.Common.{◌≡◌, length, take}
 use Rattle.lines.proofs.Rows.{Rows}
 use Rattle.lines.proofs.record.read_array.Given as goal
 
-abbrev pub invariant-loop-k : goal.invariant-loop-k
-invariant-loop-k l = Rows l.s (take l.k l.found) l.rest × (length l.found ≡ 8)
+abbrev pub invariant-loop-value : goal.invariant-loop-value
+invariant-loop-value l = record { read : Rows l.s (take l.value-index l.value-items) l.rest; eight : length l.value-items ≡ 8 }

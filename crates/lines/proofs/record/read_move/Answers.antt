@@ -1,33 +1,8 @@
-use Rattle.std.proofs.Common.{w64, SFits, rules}
-use Rattle.std.proofs.lemmas.Int.{to_z-of_z}
-use Rattle.lines.proofs.Fields.{no_first, no_second, join}
-use Rattle.lines.proofs.Sorts.{moves, form_alien, form_longer, form_is}
+use Rattle.std.proofs.Common.{rules, arith}
 use Rattle.lines.proofs.record.read_move.Goals as goal
 
-pub returns-in_err-from : goal.returns-in_err-from
-returns-in_err-from c = rw c.from_residual.ensures (form_alien moves _ (no_first c.in_err-from.ensures))
-
-pub returns-in_err-to : goal.returns-in_err-to
-returns-in_err-to c = rw c.from_residual-in_err-to.ensures (form_alien moves _ (no_second c.in_ok-from.ensures (no_first c.in_err-to.ensures)))
-
-pub returns-in_err-key : goal.returns-in_err-key
-returns-in_err-key c = rw c.from_residual-in_err-key.ensures
-    (form_alien moves _ (no_second c.in_ok-from.ensures (no_second c.in_ok-to.ensures (no_first c.in_err-key.ensures))))
-
 pub returns-in_err-leg : goal.returns-in_err-leg
-returns-in_err-leg c = rw c.from_residual-in_err-leg.ensures
-    (form_alien moves _ (no_second c.in_ok-from.ensures (no_second c.in_ok-to.ensures (no_second c.in_ok-key.ensures (no_first c.in_err-leg.ensures)))))
+returns-in_err-leg c = rw c.from_residual-in_err-leg.ensures (λ e o q. grind arith)
 
-pub returns-in_err-contracts : goal.returns-in_err-contracts
-returns-in_err-contracts c = rw c.from_residual-in_err-contracts.ensures
-    (form_alien moves _ (no_second c.in_ok-from.ensures (no_second c.in_ok-to.ensures (no_second c.in_ok-key.ensures (no_second c.in_ok-leg.ensures c.in_err-contracts.ensures)))))
-
-pub returns-then-is_end : goal.returns-then-is_end
-returns-then-is_end c vs =
-    let key-month : SFits w64 c.in_ok-key.key.month = search rules in
-    let key-strike : SFits w64 c.in_ok-key.key.strike = search rules in
-    let contracts : SFits w64 c.in_ok-contracts.contracts = search rules in
-    simp to_z-of_z (form_is moves _ (join c.in_ok-from.ensures (join c.in_ok-to.ensures (join c.in_ok-key.ensures (join c.in_ok-leg.ensures c.in_ok-contracts.ensures)))) c.if-is_end.ensures)
-
-pub returns-else-is_end : goal.returns-else-is_end
-returns-else-is_end c = form_longer moves _ (join c.in_ok-from.ensures (join c.in_ok-to.ensures (join c.in_ok-key.ensures (join c.in_ok-leg.ensures c.in_ok-contracts.ensures)))) c.if-is_end.ensures
+pub returns : goal.returns
+returns c vs = record { fit = search rules; reads = search rules; only = λ e o q. grind arith }

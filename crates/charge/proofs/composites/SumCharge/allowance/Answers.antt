@@ -1,27 +1,24 @@
-use Rattle.std.proofs.Common.{◌+◌, ap, ◌∙◌, arith}
-use borrow.Author.Differences.{ints}
-use Rattle.std.proofs.lemmas.Result.{err_from_is_err_and}
+use Rattle.std.proofs.Common.{ap, ◌∙◌, arith}
+use Rattle.std.proofs.lemmas.Int.{ints}
 use Rattle.terms.specs.declared.words.Label.TheVariants.{Sum as Own}
 use Rattle.sheet.specs.Plain.{plain}
 use Rattle.charge.specs.Answers.{limited}
-use Rattle.charge.proofs.Parts.{figure, first_refuses, second_refuses, both_answer}
+use Rattle.charge.proofs.Parts.{figure, figure_casts, first_refuses, second_refuses, both_answer}
 use Rattle.charge.proofs.composites.SumCharge.allowance.Goals as goal
 
--- the first part's fault goes up whole
 pub returns-in_err-first_allowance : goal.returns-in_err-first_allowance
 returns-in_err-first_allowance g c =
-    let a = (g.A.Charge.meaning c.args.self.now.0).allowed (plain c.args.class.now) c.args.one.now c.args.other.now in
-    let b = (g.B.Charge.meaning c.args.self.now.1).allowed (plain c.args.class.now) c.args.one.now c.args.other.now in
-    let p = err_from_is_err_and c.from_residual.result c.from_residual.ensures.1 in
-    record { answer = rw (p.1, p.2) (first_refuses _ a b (a + b) _ _ _ _ (omega arith) (omega arith) _ c.in_err-first_allowance.ensures.answer) }
+    let n = (g.B.Charge.meaning c.args.self.now.1).allowed (plain c.args.class.now) c.args.one.now c.args.other.now in
+    record { answer = first_refuses _ _ n _ _ _ _ _ _ _ (omega arith) c.from_residual.ensures.1 c.in_err-first_allowance.ensures.answer }
 
--- so does the second part's, where the first has a figure
+pub overflow_cast-first_allowance : goal.overflow_cast-first_allowance
+overflow_cast-first_allowance g c = figure_casts _ _ _ _ _ c.in_ok-first_allowance.ensures.answer
+
 pub returns-in_err-second_allowance : goal.returns-in_err-second_allowance
-returns-in_err-second_allowance g c =
-    let a = (g.A.Charge.meaning c.args.self.now.0).allowed (plain c.args.class.now) c.args.one.now c.args.other.now in
-    let b = (g.B.Charge.meaning c.args.self.now.1).allowed (plain c.args.class.now) c.args.one.now c.args.other.now in
-    let p = err_from_is_err_and c.from_residual-in_err-second_allowance.result c.from_residual-in_err-second_allowance.ensures.1 in
-    record { answer = rw (p.1, p.2) (second_refuses _ a b (a + b) _ _ _ _ (omega arith) (omega arith) _ _ _ c.in_ok-first_allowance.ensures.answer c.in_err-second_allowance.ensures.answer) }
+returns-in_err-second_allowance g c = record { answer = second_refuses _ _ _ _ _ _ _ _ _ _ _ _ (omega arith) c.from_residual-in_err-second_allowance.ensures.1 c.in_ok-first_allowance.ensures.answer c.in_err-second_allowance.ensures.answer }
+
+pub overflow_cast-second_allowance : goal.overflow_cast-second_allowance
+overflow_cast-second_allowance g c = figure_casts _ _ _ _ _ c.in_ok-second_allowance.ensures.answer
 
 pub overflow_add-first_allowance : goal.overflow_add-first_allowance
 overflow_add-first_allowance g c =
@@ -29,16 +26,8 @@ overflow_add-first_allowance g c =
     let second = figure _ _ _ _ _ c.in_ok-second_allowance.ensures.answer in
     omega (arith, ints)
 
-pub limited-requires : goal.limited-requires
-limited-requires g c =
-    let first = figure _ _ _ _ _ c.in_ok-first_allowance.ensures.answer in
-    let second = figure _ _ _ _ _ c.in_ok-second_allowance.ensures.answer in
-    omega (arith, ints)
-
 pub returns : goal.returns
 returns g c =
-    let a = (g.A.Charge.meaning c.args.self.now.0).allowed (plain c.args.class.now) c.args.one.now c.args.other.now in
-    let b = (g.B.Charge.meaning c.args.self.now.1).allowed (plain c.args.class.now) c.args.one.now c.args.other.now in
     let first = figure _ _ _ _ _ c.in_ok-first_allowance.ensures.answer in
     let second = figure _ _ _ _ _ c.in_ok-second_allowance.ensures.answer in
-    record { answer = both_answer _ a b (a + b) _ _ _ _ (omega arith) (omega arith) _ _ _ _ c.in_ok-first_allowance.ensures.answer c.in_ok-second_allowance.ensures.answer (c.limited.ensures.answer ∙ ap (λ n. limited n Own) (omega (arith, ints))) }
+    record { answer = both_answer _ _ _ _ _ _ _ _ _ _ _ _ (omega arith) (omega arith) c.in_ok-first_allowance.ensures.answer c.in_ok-second_allowance.ensures.answer (c.limited.ensures.answer ∙ ap (λ k. limited k Own) (omega (arith, ints))) }

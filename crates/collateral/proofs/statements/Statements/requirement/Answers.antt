@@ -1,24 +1,22 @@
-use Rattle.std.proofs.Common.{◌≡◌, ◌<◌, ◌≤◌, length, take, sym, ap, ◌∙◌, arith, rules}
-use Rattle.std.proofs.lemmas.Int.{clamps}
-use Rattle.std.proofs.lemmas.List.{at_drop_more, at_drop_all, get_or-take, length-take, length-take-le}
-use Rattle.collateral.specs.Requirements.{requirement_of, owed_by}
+-- No account owes more than its statement's limit, and there are at most 32.
+use Rattle.std.proofs.Common.{◌≡◌, ◌*◌, ◌≤◌, List, length, arith, rules}
+use Rattle.std.proofs.lemmas.List.Sums.{sum_by-le}
+use Rattle.std.proofs.lemmas.Bool.Decides.{nat_tests}
+use Rattle.terms.specs.declared.words.Currency.{Currency}
+use Rattle.terms.specs.declared.words.Side.{Side}
+use Rattle.terms.specs.Words.{currency_number}
+use Rattle.collateral.specs.declared.statements.Statement.{Statement}
+use Rattle.collateral.specs.Requirements.{owed_by, requirement_of}
 use Rattle.collateral.proofs.statements.Statements.requirement.Goals as goal
 
-pub loop-i-preserved : goal.loop-i-preserved
-loop-i-preserved c =
-    let s = c.args.self.now in
-    let d = c.index-self-i.result in
-    let i = c.loop-i.i in
-    let long : length s.rows ≡ 32 = search rules in
-    let lt : i < length (take s.count s.rows) = omega (arith, length-take-le s.count s.rows (omega (arith, long, s.few)), c.loop-i-test.true) in
-    let e = at_drop_more (requirement_of c.args.side c.args.currency) (take s.count s.rows) i d lt in
-    let g = get_or-take s.count s.rows i d c.loop-i-test.true in
-    let v = c.adds-sum.ensures.value ∙ ap (owed_by c.args.side c.args.currency) (sym g) in
-    (omega (arith, c.loop-i.invariant.0, c.adds-sum.ensures.bound), omega (arith, c.loop-i.invariant.1, e, v))
+owed_by-le : (s : Side) (c : Currency) (a : Statement) → owed_by s c a ≤ 100000000000
+owed_by-le s c a = let h = a.modest (currency_number c) in grind (arith, nat_tests)
 
-pub returns : goal.returns
-returns c =
-    let s = c.args.self.now in
-    let past : length (take s.count s.rows) ≤ c.loop-i.i = omega (arith, clamps, length-take s.count s.rows, c.loop-i-test.false) in
-    let e = at_drop_all (requirement_of c.args.side c.args.currency) (take s.count s.rows) c.loop-i.i past in
-    record { value = omega (arith, c.loop-i.invariant.1, e); bound = omega (arith, c.loop-i.invariant.0, s.few) }
+requirement_of-le : (s : Side) (c : Currency) (rows : List Statement) → requirement_of s c rows ≤ length rows * 100000000000
+requirement_of-le s c rows = sum_by-le (owed_by s c) 100000000000 rows (λ k d lt. search owed_by-le)
+
+pub returns-clause-bound : goal.returns-clause-bound
+returns-clause-bound c =
+    let rows = c.as_slice.result.now in
+    let value : c.sum.result ≡ requirement_of c.args.side c.args.currency rows = search rules in
+    omega (arith, requirement_of-le c.args.side c.args.currency rows, c.as_slice.ensures.bound)

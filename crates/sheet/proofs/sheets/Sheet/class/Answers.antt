@@ -4,4 +4,10 @@ use Rattle.sheet.proofs.sheets.Sheet.class.Goals as goal
 
 pub invariant_of-result : goal.invariant_of-result
 invariant_of-result c =
-    let s = c.args.self.now in record { inside = inside_of s.rates s.classes.now s.series.now c.part-series.result.now c.args.i c.requires s.classes_fit s.series_fit s.few_series c.part-series.ensures.value; worths = worthy_of s.series.now c.part-series.result.now (class_at s.classes.now c.args.i).code s.series_fit c.part-series.ensures.value }
+    let s = c.args.self.now in
+    let k = (class_at s.classes.now c.args.i).code in
+    let is = c.part-series.ensures.value in
+    record {
+      inside = inside_of s.series.now c.part-series.result.now k s.whole.series_fit is s.rates s.classes.now c.args.i c.requires s.whole;
+      worths = worthy_of s.series.now c.part-series.result.now k s.whole.series_fit is;
+    }

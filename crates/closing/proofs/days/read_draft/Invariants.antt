@@ -1,0 +1,7 @@
+use Rattle.std.proofs.Common.{◌-◌}
+use Rattle.desk.specs.declared.clerk.TheConstants.{LINE_LIMIT}
+use Rattle.closing.proofs.days.read_draft.Given as goal
+
+-- line 1,000,000 is never taken
+abbrev pub decreases-loop-clerk : goal.decreases-loop-clerk
+decreases-loop-clerk g l = LINE_LIMIT - l.clerk.reader.line

@@ -1,0 +1,89 @@
+//! What every line goes through: its form, its turn, the call that it stands for, and its number.
+ghost use Rattle.std.specs.Prelude.{◌≡◌, ◌<◌, OnOk, OnErr, IfOk, IfErr, Some as Just};
+ghost use Rattle.lines.specs.Turns.{counted};
+ghost use Rattle.lines.specs.Columns.{Isnt};
+ghost use Rattle.lines.specs.Records.{Sound, written};
+ghost use Rattle.terms.specs.Faults.{refused, with_line};
+ghost use Rattle.terms.specs.declared.words.Layer.TheVariants.{Line as OfLine};
+ghost use Rattle.terms.specs.declared.words.Refusal.TheVariants.{BadLine as NoForm, Turn as OutOfTurn};
+ghost use Rattle.desk.specs.Clerks.{numbered};
+
+use lines::reader::{Reader, Section};
+use lines::record::{Record, read_line};
+use terms::faults::Fault;
+use terms::words::{Layer, Refusal};
+
+/// The line that no input may have.
+pub const LINE_LIMIT: u32 = 1_000_000;
+
+/// What takes the records of one part of the input to their calls.
+pub trait Desk {
+    /// Takes a record that is due in a section to the call that it stands for. The values are those of an R record.
+    fn judge(&mut self, section: Section, rec: Record<'_>, values: &[i64; 8]) -> Result<(), Fault>;
+}
+
+/// Reads lines and takes their records to a desk.
+#[derive(Drop)]
+pub struct Clerk<D> {
+    desk: D,
+    pub reader: Reader,
+}
+
+impl<D: Desk> Clerk<D> {
+    /// A clerk who goes on where a reader stands.
+    pub fn new(desk: D, reader: Reader) -> Clerk<D>
+        ensures { result.reader ≡ reader }
+    {
+        Clerk { desk, reader }
+    }
+
+    /// Takes one line, or refuses it with its number.
+    pub fn take(&mut self, line: &[u8]) -> Result<(), Fault>
+        ensures no_form { Isnt written Sound line.now → result ≡ Err (with_line (counted self.old.reader.line) (refused NoForm OfLine)) }
+        ensures counts { OnOk result (self.new.reader.line ≡ counted self.old.reader.line) }
+        ensures limit { OnOk result (self.new.reader.line < LINE_LIMIT) }
+        ensures stays { OnErr result (self.new.reader ≡ self.old.reader) }
+        ensures line { IfErr result (λ fault. fault.place.line ≡ Just (counted self.old.reader.line)) }
+    {
+        let number = self.reader.next_line();
+        self.reader = at_line(self.answer(line), number)?;
+        Ok(())
+    }
+
+    /// The fault of an input that ends before E: 2, at the line that would come next.
+    pub fn ended_early(&self) -> Fault
+        ensures { result ≡ with_line (counted self.now.reader.line) (refused OutOfTurn OfLine) }
+    {
+        Fault::new(Refusal::Turn, Layer::Line).with_line(self.reader.next_line())
+    }
+
+    /// Where the reader stands after a line: 1 where it is no form, 2 where it is not due, else as its call answers.
+    fn answer(&mut self, line: &[u8]) -> Result<Reader, Fault>
+        ensures no_form { Isnt written Sound line.now → result ≡ Err (refused NoForm OfLine) }
+        ensures stays { self.new.reader ≡ self.old.reader }
+        ensures counts { IfOk result (λ reader. reader.line ≡ counted self.old.reader.line) }
+    {
+        let mut values = [0i64; 8];
+        let Some(rec) = read_line(line, &mut values) else {
+            return Err(Fault::new(Refusal::BadLine, Layer::Line));
+        };
+        let mut reader = self.reader;
+        reader.step(rec)?;
+        self.desk.judge(self.reader.section, rec, &values)?;
+        Ok(reader)
+    }
+}
+
+/// The answer at its line: a fault takes the line's number, and line 1,000,000 is refused unless an earlier row decides.
+fn at_line(answer: Result<Reader, Fault>, number: u32) -> Result<Reader, Fault>
+    ensures { result ≡ numbered number answer }
+{
+    let full = Fault::new(Refusal::Full, Layer::Line);
+    match answer {
+        Ok(reader) if number < LINE_LIMIT => Ok(reader),
+        Err(fault) if number < LINE_LIMIT || fault.refusal < Refusal::Full => {
+            Err(fault.with_line(number))
+        }
+        _ => Err(full.with_line(number)),
+    }
+}
