@@ -25,28 +25,28 @@ pub report_is : (a sums : List ℤ) (v : ℤ) (owed : List ℕ) (q : ℕ) (zs : 
 report_is a sums v owed q zs rates e1 e2 e3 e4 = rw (e1, e2, e4, e3)
 
 -- accepted sums are within the limits of the offset, at the sheet's rates
-pub limits_on : (sheet : Sheet) (name : Name) (figures sums : List ℤ) (rates : List ℕ) → rates ≡ sheet.rates → Ok sums ≡ sums_of name sheet.classes.now figures → Limits sums rates
+pub limits_on : (sheet : Sheet) (name : Name) (figures sums : List ℤ) (rates : List ℕ) → rates ≡ sheet.rates.by_number → Ok sums ≡ sums_of name sheet.classes.now figures → Limits sums rates
 limits_on sheet name figures sums rates e h =
-    subst (Limits sums) (sym e) (sums_limits name sheet.classes.now figures sums sheet.rates (sym h) sheet.whole.rates_fit sheet.whole.classes_fit)
+    subst (Limits sums) (sym e) (sums_limits name sheet.classes.now figures sums sheet.rates.by_number (sym h) sheet.rates.most sheet.whole.classes_fit)
 
 -- what a report of the rule comes from
-module _ (m : Meaning) (sheet : Sheet) (name : Name) (b : Basis) (longs shorts : List ℕ) (report : AccountReport) (e : account_report m name b sheet.rates sheet.classes.now sheet.series.now longs shorts ≡ Ok report) where
-  report_from : (figures : List ℤ) × (sums : List ℤ) × (sums_of name sheet.classes.now figures ≡ Ok sums) × (report_of figures sums sheet.rates ≡ report)
+module _ (m : Meaning) (sheet : Sheet) (name : Name) (b : Basis) (longs shorts : List ℕ) (report : AccountReport) (e : account_report m name b sheet.rates.by_number sheet.classes.now sheet.series.now longs shorts ≡ Ok report) where
+  report_from : (figures : List ℤ) × (sums : List ℤ) × (sums_of name sheet.classes.now figures ≡ Ok sums) × (report_of figures sums sheet.rates.by_number ≡ report)
   report_from =
       let counts = margined_counts b longs shorts in
-      let t = after_ok (tally_of m name b sheet.classes.now sheet.series.now counts) (λ t. Ok (report_of t.figures t.sums sheet.rates)) report e in
+      let t = after_ok (tally_of m name b sheet.classes.now sheet.series.now counts) (λ t. Ok (report_of t.figures t.sums sheet.rates.by_number)) report e in
       let f = after_ok (figures_of m name b sheet.series.now counts sheet.classes.now) (λ figures. and_then (sums_of name sheet.classes.now figures) (λ sums. Ok (tally figures sums))) t.0 t.1 in
       let s = after_ok (sums_of name sheet.classes.now f.0) (λ sums. Ok (tally f.0 sums)) t.0 f.2 in
       let same : tally f.0 s.0 ≡ t.0 = cc in
-      let made : report_of t.0.figures t.0.sums sheet.rates ≡ report = cc in
+      let made : report_of t.0.figures t.0.sums sheet.rates.by_number ≡ report = cc in
       (f.0, s.0, s.1, rw (← same) at made)
 
-  pub report_lawful : Law report.sums sheet.rates report.owed report.requirement
+  pub report_lawful : Law report.sums sheet.rates.by_number report.owed report.requirement
   report_lawful =
       let r = report_from in
-      rw (← r.3) (law r.1 sheet.rates (limits_on sheet name r.0 r.1 sheet.rates refl (sym r.2)).rated)
+      rw (← r.3) (law r.1 sheet.rates.by_number (limits_on sheet name r.0 r.1 sheet.rates.by_number refl (sym r.2)).rated)
 
   pub report_owable : Owable report.owed
   report_owable =
       let r = report_from in
-      rw (← r.3) (owed_owable _ r.1 sheet.rates (limits_on sheet name r.0 r.1 sheet.rates refl (sym r.2)).debits)
+      rw (← r.3) (owed_owable _ r.1 sheet.rates.by_number (limits_on sheet name r.0 r.1 sheet.rates.by_number refl (sym r.2)).debits)

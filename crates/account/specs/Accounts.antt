@@ -27,4 +27,4 @@ tally_on m a = tally_of m a.name a.basis a.sheet.classes.now a.sheet.series.now 
 
 -- The report of an account.
 abbrev pub report_on : Meaning → Account → Result AccountReport Fault
-report_on m a = account_report m a.name a.basis a.sheet.rates a.sheet.classes.now a.sheet.series.now a.longs.now a.shorts.now
+report_on m a = account_report m a.name a.basis a.sheet.rates.by_number a.sheet.classes.now a.sheet.series.now a.longs.now a.shorts.now

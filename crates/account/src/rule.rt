@@ -48,7 +48,7 @@ fn tally<C: Charge>(
 ) -> Result<CurrencySums, Fault>
     requires { length figures.old ≡ length account.now.sheet.classes.now }
     ensures answer { result_map_both (λ s. tally figures.new s.sums) (λ f. f) result ≡ tally_on (C.Charge.meaning charge.now) account.now }
-    ensures rates { IfOk result (λ s. s.rates ≡ account.now.sheet.rates) }
+    ensures rates { IfOk result (λ s. s.rates ≡ account.now.sheet.rates.by_number) }
 {
     let mut counts = [0; 128];
     let counts = &mut counts[..account.longs.len()];
@@ -73,7 +73,7 @@ pub fn margin_account<C: Charge>(
 ) -> Result<(), Fault>
     ensures answer { filled result report.new ≡ report_on (C.Charge.meaning charge.now) account.now }
     ensures after { report.new ≡ left_in (report_on (C.Charge.meaning charge.now) account.now) report.old }
-    ensures law { OnOk result (Law report.new.sums account.now.sheet.rates report.new.owed report.new.requirement) }
+    ensures law { OnOk result (Law report.new.sums account.now.sheet.rates.by_number report.new.owed report.new.requirement) }
     ensures owed { OnOk result (Owable report.new.owed) }
     ensures bound { OnOk result (report.new.requirement ≤ 100000000000000000) }
 {

@@ -52,13 +52,13 @@ impl ClassFigures<'_> {
     /// The sums of the five currencies with their rates, up to the first refusal.
     pub(crate) fn currency_sums(&self) -> Result<CurrencySums, Fault>
         ensures answer { result_map_both (λ s. s.sums) (λ f. f) result ≡ sums_on self.now.account self.now.figures.now }
-        ensures rates { IfOk result (λ s. s.rates ≡ self.now.account.sheet.rates) }
+        ensures rates { IfOk result (λ s. s.rates ≡ self.now.account.sheet.rates.by_number) }
     {
         let mut sums = [0; 5];
         for currency in Currency::ALL {
             sums[currency.number()] = self.currency_sum(currency)?;
         }
-        let rates = self.account.sheet.rates();
+        let rates = self.account.sheet.rates().factors();
         Ok(CurrencySums { sums, rates })
     }
 }

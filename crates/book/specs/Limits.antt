@@ -7,7 +7,8 @@ use Rattle.terms.specs.declared.words.Kind.TheVariants.{Call}
 use Rattle.terms.specs.declared.names.Name.{Name}
 use Rattle.terms.specs.declared.keys.AskedKey.{AskedKey}
 use Rattle.terms.specs.declared.keys.SeriesKey.{SeriesKey}
-use Rattle.terms.specs.Keys.{between_limits, key_of}
+use Rattle.terms.specs.Keys.{key_of}
+use Rattle.terms.specs.Limits.{between_limits}
 use Rattle.terms.specs.Names.{named, spelled}
 use Rattle.terms.specs.Order.{order}
 use Rattle.book.specs.declared.dealings.Dealing.{Dealing}

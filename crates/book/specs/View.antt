@@ -6,7 +6,7 @@ use Rattle.book.specs.State.{State}
 
 abbrev pub view : Book → State
 view b = record {
-  rates = b.sheet.rates;
+  rates = b.sheet.rates.by_number;
   classes = b.sheet.classes.now;
   series = b.sheet.series.now;
   accounts = held b.accounts;

@@ -32,7 +32,7 @@ fn at_both(refusal: Refusal, account: Name, class: Code) -> Fault
 impl<'s, 'a> Book<'s, 'a> {
     /// A book without accounts, over memory that may hold anything.
     pub fn new(sheet: Sheet<'s>, rows: &'a mut [AccountRow], counts: &'a mut [u32]) -> Book<'s, 'a>
-        ensures value { view result ≡ empty sheet.entry.rates sheet.entry.classes.now sheet.entry.series.now (length rows.old) counts.old }
+        ensures value { view result ≡ empty sheet.entry.rates.by_number sheet.entry.classes.now sheet.entry.series.now (length rows.old) counts.old }
     {
         Book {
             sheet,

@@ -4,7 +4,7 @@ ghost use Rattle.book.specs.Limits.{name_of, fits, same_account, IsNamed};
 
 use crate::dealings::Dealing;
 use terms::keys::{AskedKey, SeriesKey};
-use terms::limits::OutsideLimits;
+use terms::limits::{OutsideLimits, within};
 use terms::names::Name;
 
 /// How many contracts one use takes at most, and one count holds at most.
@@ -21,13 +21,11 @@ pub(crate) fn within_limits(
 {
     let name = Name::try_from(name)?;
     let key = SeriesKey::try_from(key)?;
-    if contracts < 1 || contracts > i64::from(CEILING) {
-        return Err(OutsideLimits);
-    }
+    let contracts = within(contracts, 1, CEILING)?;
     Ok(Dealing {
         name,
         key,
-        contracts: contracts as u32,
+        contracts,
     })
 }
 

@@ -13,7 +13,7 @@ use terms::words::Leg;
 impl<'s, 'a> Book<'s, 'a> {
     /// The sheet that the book stands on.
     pub fn sheet(&self) -> Sheet<'s>
-        ensures rates { result.rates ≡ (view self.now).rates }
+        ensures rates { result.rates.by_number ≡ (view self.now).rates }
         ensures classes { result.classes.now ≡ (view self.now).classes }
         ensures series { result.series.now ≡ (view self.now).series }
     {

@@ -10,6 +10,7 @@ use desk::sheet_desk::SheetDesk;
 use desk::statements::draw_up;
 use lines::reader::{Reader, Section};
 use sheet::drafts::DraftSheet;
+use sheet::rates::Rates;
 use std::io::Read;
 use stream::lines::LineReader;
 use stream::reading::Stop;
@@ -17,7 +18,7 @@ use stream::reading::Stop;
 /// Every figure of a report: the rates tell which currencies are on the sheet.
 #[derive(Drop)]
 pub struct Day {
-    pub rates: [u32; 5],
+    pub rates: Rates,
     pub statements: Statements,
     pub ledger: Ledger,
 }

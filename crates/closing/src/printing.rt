@@ -10,7 +10,7 @@ use terms::words::{Currency, Side};
 fn print_owed(rt: &HostRuntime, day: &Day) -> Result<(), Stop> {
     for statement in day.statements.as_slice() {
         for currency in Currency::ALL {
-            if day.rates[currency.number()] > 0 {
+            if day.rates.quotes(currency) {
                 let line = OwedLine {
                     name: statement.name,
                     currency,
@@ -26,7 +26,7 @@ fn print_owed(rt: &HostRuntime, day: &Day) -> Result<(), Stop> {
 /// What one side has to bring and is called for, in currency order.
 fn print_calls(rt: &HostRuntime, day: &Day, side: Side) -> Result<(), Stop> {
     for currency in Currency::ALL {
-        if day.rates[currency.number()] > 0 {
+        if day.rates.quotes(currency) {
             let requirement = day.statements.requirement(side, currency);
             let call = day.ledger.call(side, currency, requirement);
             let line = CallLine {

@@ -8,7 +8,7 @@ use Rattle.terms.specs.declared.words.Refusal.{Refusal}
 use Rattle.terms.specs.declared.words.Refusal.TheVariants.{Limit, Unknown, Ceiling, Notice}
 use Rattle.terms.specs.declared.words.Side.{Side}
 use Rattle.terms.specs.Faults.{refused, with_currency, unless}
-use Rattle.terms.specs.Keys.{between_limits}
+use Rattle.terms.specs.Limits.{between_limits}
 use Rattle.terms.specs.Words.{currency_number}
 use Rattle.collateral.specs.declared.records.Collateral.{Collateral}
 use Rattle.collateral.specs.Records.{record_at, with_record}

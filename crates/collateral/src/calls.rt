@@ -30,14 +30,14 @@ impl Ledger {
 
     /// Adds a deposit to a side's collateral.
     pub fn deposit(&mut self, side: Side, currency: Currency, cents: i64) -> Result<(), Fault>
-        ensures answer { refusal result ≡ deposit_fault self.old.rates self.old.records side currency cents }
+        ensures answer { refusal result ≡ deposit_fault self.old.rates.by_number self.old.records side currency cents }
         ensures after { self.new.records ≡ deposit_after (refusal result) self.old.records side currency cents }
         ensures kept { self.new.rates ≡ self.old.rates }
     {
         if cents < 1 || cents > DEPOSIT_LIMIT {
             return Err(Fault::new(Refusal::Limit, Layer::Book));
         }
-        if self.rates[currency.number()] == 0 {
+        if !self.rates.quotes(currency) {
             return Err(Fault::new(Refusal::Unknown, Layer::Book).with_currency(currency));
         }
         let record = &mut self.records[side.number()][currency.number()];

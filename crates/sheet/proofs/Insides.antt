@@ -11,7 +11,8 @@ use Rattle.terms.specs.declared.codes.Code.{Code}
 use Rattle.sheet.specs.declared.rows.ClassRow.{ClassRow}
 use Rattle.sheet.specs.declared.rows.Series.{Series}
 use Rattle.terms.specs.Codes.{proper, lettered}
-use Rattle.terms.specs.Keys.{between_limits, key_fits}
+use Rattle.terms.specs.Keys.{key_fits}
+use Rattle.terms.specs.Limits.{between_limits}
 use Rattle.sheet.specs.Limits.{values_fit, series_fits, line_fits, line_of, rates_fit, row_fits, quoted, class_fits, Within, scenario, delta_of, Inside, worth_of, Worthy}
 use Rattle.sheet.specs.Given.{class_at, no_class}
 use Rattle.sheet.specs.Rows.{of_class, series_class}

@@ -4,14 +4,15 @@ use borrow.Author.Differences.{up}
 use Rattle.std.specs.Bool.{then_some}
 use Rattle.std.proofs.lemmas.Bool.{true≢false, false≢true, and_parts, and_from, and_left, and_right, cond-false}
 use Rattle.terms.specs.Codes.{proper}
-use Rattle.terms.specs.Keys.{between_limits, key_fits, key_of, month_fits, strike_fits}
+use Rattle.terms.specs.Keys.{key_fits, key_of, month_fits, strike_fits}
+use Rattle.terms.specs.Limits.{between_limits, within}
 use Rattle.terms.specs.declared.codes.Code.{Code}
 use Rattle.terms.specs.declared.keys.SeriesKey.{SeriesKey}
 use Rattle.terms.specs.declared.words.Currency.{Currency}
 use Rattle.sheet.specs.declared.rows.ClassRow.{ClassRow}
 use Rattle.sheet.specs.declared.rows.Listing.{Listing}
 use Rattle.sheet.specs.declared.rows.Series.{Series}
-use Rattle.sheet.specs.Limits.{amount_of, quoted, terms_fit, published, class_of, line_fits, values_fit, keyed, listed_row, line_of, series_of, row_fits, class_fits, series_fits}
+use Rattle.sheet.specs.Limits.{quoted, terms_fit, published, class_of, line_fits, values_fit, keyed, listed_row, line_of, series_of, row_fits, class_fits, series_fits}
 
 -- ---- something if a test passes
 pub none_if : {X : Type 0} (b : Bool) (x : X) → None ≡ cond b (Some x) None → b ≡ false
@@ -54,17 +55,17 @@ module _ (l : Listing) (array : List ℤ) where
   unmade : line_fits l ≡ false → None ≡ series_of l array
   unmade e = sym (cond-false (line_fits l) (Some (listed_row l array)) None e)
 
-  pub no_price : None ≡ amount_of l.price 0 10000000 → None ≡ series_of l array
+  pub no_price : None ≡ within l.price 0 10000000 → None ≡ series_of l array
   no_price e = unmade (and_right (key_fits l.key) _ (and_left (between_limits l.price 0 10000000) _ (none_if (between_limits l.price 0 10000000) (up l.price) e)))
 
-  pub no_shares : None ≡ amount_of l.shares 1 99999 → None ≡ series_of l array
+  pub no_shares : None ≡ within l.shares 1 99999 → None ≡ series_of l array
   no_shares e = unmade (and_right (key_fits l.key) _ (and_right (between_limits l.price 0 10000000) _ (and_left (between_limits l.shares 1 99999) _ (none_if (between_limits l.shares 1 99999) (up l.shares) e))))
 
   same_if : {X : Type 0} (a b c d : Bool) (x : X) → a ≡ true → b ≡ true → c ≡ true → then_some d x ≡ cond (a && (b && (c && d))) (Some x) None
   same_if a b c true x p q r = rw (p, q, r) refl
   same_if a b c false x p q r = rw (p, q, r) refl
 
-  pub series_is : (k : SeriesKey) (p n : ℕ) → Some k ≡ key_of l.key → Some p ≡ amount_of l.price 0 10000000 → Some n ≡ amount_of l.shares 1 99999 →
+  pub series_is : (k : SeriesKey) (p n : ℕ) → Some k ≡ key_of l.key → Some p ≡ within l.price 0 10000000 → Some n ≡ within l.shares 1 99999 →
       then_some (leb (p * n) 10000000 && leb (nat_abs l.delta) 100) (record { key = k; price = p; shares = n; delta = l.delta; array = array }) ≡ series_of l array
   series_is k p n ek ep en =
       let a = some_if (key_fits l.key) (keyed l.key) k ek in

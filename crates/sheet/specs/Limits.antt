@@ -4,7 +4,8 @@ use borrow.Author.Differences.{up}
 use Rattle.std.specs.Option.{unwrap_or}
 use Rattle.std.specs.List.{list_all}
 use Rattle.terms.specs.Codes.{proper}
-use Rattle.terms.specs.Keys.{between_limits, key_fits}
+use Rattle.terms.specs.Keys.{key_fits}
+use Rattle.terms.specs.Limits.{between_limits}
 use Rattle.terms.specs.Words.{currency_number}
 use Rattle.terms.specs.declared.codes.Code.{Code}
 use Rattle.terms.specs.declared.keys.AskedKey.{AskedKey}
@@ -13,10 +14,6 @@ use Rattle.terms.specs.declared.words.Currency.{Currency}
 use Rattle.sheet.specs.declared.rows.ClassRow.{ClassRow}
 use Rattle.sheet.specs.declared.rows.Listing.{Listing}
 use Rattle.sheet.specs.declared.rows.Series.{Series}
-
--- a number as it was given, if it lies from a lowest to a highest
-abbrev pub amount_of : ℤ → ℕ → ℕ → Option ℕ
-amount_of z low high = cond (between_limits z low high) (Some (up z)) None
 
 -- A rate is in ten-thousandths of one HKD for one unit, 1 to 200,000.
 abbrev pub rate_fits : ℤ → Bool

@@ -7,7 +7,7 @@ use Rattle.sheet.specs.State.{State}
 -- the rates, the rows that are written, and the length of the memory lent for them
 abbrev pub view : DraftSheet → State
 view d = record {
-  rates = d.rates;
+  rates = d.rates.by_number;
   classes = held d.classes;
   series = held d.series;
   class_room = length (lent d.classes);

@@ -1,19 +1,19 @@
 //! The calls that write a sheet; each refuses by itself, and a refusal alters nothing.
 ghost use Rattle.std.specs.Prelude.{◌≡◌, length, None};
 ghost use Rattle.terms.specs.Faults.{refusal};
-ghost use Rattle.sheet.specs.State.{Rate, Class, Listed, Step, book, entry_fault, fresh, key_fault, line_fault, values_fault};
+ghost use Rattle.sheet.specs.State.{Rate, Class, Listed, Step, entry_fault, fresh, key_fault, line_fault, values_fault};
 ghost use Rattle.sheet.specs.View.{view};
 
 use crate::drafts::DraftSheet;
-use crate::limits::{
-    MOST_CLASSES, MOST_RATE, MOST_SERIES, amount, class_row, series_row, values_fit,
-};
+use crate::limits::{MOST_CLASSES, MOST_RATE, MOST_SERIES, class_row, series_row, values_fit};
+use crate::rates::Rates;
 use crate::rows::{ClassRow, Listing, Series};
 use crate::sheets::Sheet;
 use register::Register;
 use terms::codes::Code;
 use terms::faults::Fault;
 use terms::keys::SeriesKey;
+use terms::limits::{OutsideLimits, within};
 use terms::words::{Currency, Layer, Refusal};
 
 impl<'a> DraftSheet<'a> {
@@ -22,7 +22,7 @@ impl<'a> DraftSheet<'a> {
         ensures value { view result ≡ fresh (length classes.old) (length series.old) }
     {
         DraftSheet {
-            rates: [10_000, 0, 0, 0, 0],
+            rates: Rates::home(),
             classes: Register::new(classes),
             series: Register::new(series),
         }
@@ -32,12 +32,11 @@ impl<'a> DraftSheet<'a> {
     pub fn add_rate(&mut self, currency: Currency, rate: i64) -> Result<(), Fault>
         ensures after { Step (view self.old) (Rate currency rate) (refusal result) (view self.new) }
     {
-        let rate = amount(rate, 1, MOST_RATE).ok_or(refused(Refusal::Limit))?;
-        let i = currency.number();
-        if self.rates[i] > 0 {
-            return Err(refused(Refusal::Twice).with_currency(currency));
+        let rate = within(rate, 1, MOST_RATE)?;
+        if self.rates.quotes(currency) {
+            return Err(Fault::new(Refusal::Twice, Layer::Book).with_currency(currency));
         }
-        self.rates[i] = rate;
+        self.rates.put(currency, rate);
         Ok(())
     }
 
@@ -51,12 +50,12 @@ impl<'a> DraftSheet<'a> {
     ) -> Result<(), Fault>
         ensures after { Step (view self.old) (Class code currency spread minimum) (refusal result) (view self.new) }
     {
-        let row = class_row(code, currency, spread, minimum).ok_or(refused(Refusal::Limit))?;
+        let row = class_row(code, currency, spread, minimum)?;
         if self.classes.find(&code).is_some() {
-            return Err(refused(Refusal::Twice).with_class(code));
+            return Err(Fault::new(Refusal::Twice, Layer::Book).with_class(code));
         }
-        if self.rates[currency.number()] == 0 {
-            return Err(refused(Refusal::Unknown).with_currency(currency));
+        if !self.rates.quotes(currency) {
+            return Err(Fault::new(Refusal::Unknown, Layer::Book).with_currency(currency));
         }
         told(self.classes.insert(row, MOST_CLASSES))
     }
@@ -65,10 +64,10 @@ impl<'a> DraftSheet<'a> {
     pub fn judge_series(&self, listing: Listing) -> Result<(), Fault>
         ensures value { refusal result ≡ line_fault (view self.now) listing }
     {
-        let row = series_row(&listing, [0; 16]).ok_or(refused(Refusal::Limit))?;
+        let row = series_row(&listing, [0; 16])?; // its own lines judge the array
         self.judge_key(&row.key)?;
         if !self.series.has_room(MOST_SERIES) {
-            return Err(refused(Refusal::Full));
+            return Err(Fault::new(Refusal::Full, Layer::Book));
         }
         Ok(())
     }
@@ -77,7 +76,7 @@ impl<'a> DraftSheet<'a> {
     pub fn add_series(&mut self, listing: Listing, array: [i64; 16]) -> Result<(), Fault>
         ensures after { Step (view self.old) (Listed listing array) (refusal result) (view self.new) }
     {
-        let row = series_row(&listing, array).ok_or(refused(Refusal::Limit))?;
+        let row = series_row(&listing, array)?;
         judge_amounts(&array)?;
         self.judge_key(&row.key)?;
         told(self.series.insert(row, MOST_SERIES))
@@ -85,7 +84,7 @@ impl<'a> DraftSheet<'a> {
 
     /// The sheet as it is, to be read from now on.
     pub fn seal(self) -> Sheet<'a>
-        ensures rates { result.rates ≡ (view self.entry).rates }
+        ensures rates { result.rates.by_number ≡ (view self.entry).rates }
         ensures classes { result.classes.now ≡ (view self.entry).classes }
         ensures series { result.series.now ≡ (view self.entry).series }
     {
@@ -106,10 +105,10 @@ impl<'a> DraftSheet<'a> {
         ensures value { refusal result ≡ key_fault (view self.now) key.now None }
     {
         if self.series.find(key).is_some() {
-            return Err(refused(Refusal::Twice).with_class(key.class));
+            return Err(Fault::new(Refusal::Twice, Layer::Book).with_class(key.class));
         }
         if self.classes.find(&key.class).is_none() {
-            return Err(refused(Refusal::Unknown).with_class(key.class));
+            return Err(Fault::new(Refusal::Unknown, Layer::Book).with_class(key.class));
         }
         Ok(())
     }
@@ -127,7 +126,7 @@ fn judge_amounts(values: &[i64]) -> Result<(), Fault>
     ensures value { refusal result ≡ values_fault values.now }
 {
     if !values_fit(values) {
-        return Err(refused(Refusal::Limit));
+        return Err(Fault::from(OutsideLimits));
     }
     Ok(())
 }
@@ -136,12 +135,7 @@ fn judge_amounts(values: &[i64]) -> Result<(), Fault>
 fn told(answer: Result<usize, Refusal>) -> Result<(), Fault>
     ensures value { refusal result ≡ entry_fault answer }
 {
-    answer.map(|_| ()).map_err(refused)
-}
-
-/// What the sheet refuses is of layer book.
-fn refused(refusal: Refusal) -> Fault
-    ensures value { result ≡ book refusal }
-{
-    Fault::new(refusal, Layer::Book)
+    answer
+        .map(|_| ())
+        .map_err(|refusal| Fault::new(refusal, Layer::Book))
 }

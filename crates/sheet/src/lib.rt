@@ -6,6 +6,7 @@ pub mod classes;
 pub mod drafts;
 pub mod limits;
 pub mod ranges;
+pub mod rates;
 pub mod rows;
 pub mod sheets;
 pub mod views;

@@ -11,6 +11,7 @@ ghost use Rattle.sheet.specs.Rows.{Spanned, class_rank, series_rank};
 
 use crate::classes::Class;
 use crate::ranges::{part, span_of};
+use crate::rates::Rates;
 use crate::rows::ClassRow;
 use crate::sheets::Sheet;
 use register::place_with;
@@ -34,19 +35,25 @@ impl<'a> Sheet<'a> {
         self.series.len()
     }
 
-    /// Each currency's rate by the currency's number; 0 stands for none.
-    pub fn rates(&self) -> [u32; 5]
+    /// The rates of the currencies on the sheet.
+    pub fn rates(&self) -> Rates
         ensures value { result ≡ self.now.rates }
-        ensures bound { (k : ℕ) → slice_index result k ≤ 200000 }
     {
-        self.rates
+        self.rates // as the draft had them
     }
 
     /// Whether a currency is on the sheet.
     pub fn is_quoted(&self, currency: Currency) -> bool
-        ensures value { result ≡ quoted self.now.rates currency }
+        ensures value { result ≡ quoted self.now.rates.by_number currency }
     {
-        0 < self.rates[currency.number()]
+        self.rates.quotes(currency)
+    }
+
+    /// The rows of the classes, in order of their codes.
+    pub fn class_rows(&self) -> &'a [ClassRow]
+        ensures value { result.now ≡ self.now.classes.now }
+    {
+        self.classes // in the order of `class_row`
     }
 
     /// The place of the class that has the code.
@@ -71,7 +78,7 @@ impl<'a> Sheet<'a> {
     pub fn class_row(&self, i: usize) -> ClassRow
         requires { i < length self.now.classes.now }
         ensures value { result ≡ class_at self.now.classes.now i }
-        ensures bound { 0 < slice_index self.now.rates (currency_number result.currency) }
+        ensures bound { 0 < slice_index self.now.rates.by_number (currency_number result.currency) }
     {
         self.classes[i]
     }

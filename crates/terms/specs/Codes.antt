@@ -1,5 +1,6 @@
 -- Codes of three capitals.
-use Rattle.std.specs.Prelude.{ℕ, Bool, cond, ◌&&◌, List, [], ◌∷◌, Some, None, Option, ◌==◌, nat_le, slice_index}
+use Rattle.std.specs.Prelude.{ℕ, Bool, ◌&&◌, List, [], ◌∷◌, Option, ◌==◌, nat_le, slice_index}
+use Rattle.std.specs.List.{find}
 use Rattle.terms.specs.declared.words.Currency.{Currency}
 use Rattle.terms.specs.declared.words.Currency.TheVariants.{Hkd, Usd, Eur, Jpy, Rmb}
 use Rattle.terms.specs.declared.codes.Code.{Code}
@@ -29,6 +30,6 @@ currency_code c = code_of (currency_letters c)
 abbrev pub writes : Code → Currency → Bool
 writes c k = c.first == (currency_code k).first && (c.second == (currency_code k).second && c.third == (currency_code k).third)
 
--- the currency whose letters a code has
+-- the one of the five whose letters a code has
 abbrev pub currency_of : Code → Option Currency
-currency_of c = cond (writes c Hkd) (Some Hkd) (cond (writes c Usd) (Some Usd) (cond (writes c Eur) (Some Eur) (cond (writes c Jpy) (Some Jpy) (cond (writes c Rmb) (Some Rmb) None))))
+currency_of c = find (λ k. writes c k) (Hkd ∷ Usd ∷ Eur ∷ Jpy ∷ Rmb ∷ [])

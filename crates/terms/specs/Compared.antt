@@ -1,4 +1,4 @@
--- What the derived comparisons of keys say: keys compare as the numbers by which they are ranked, and keys that are equal are the same.
+-- What the derived comparisons of keys say: keys compare as the numbers by which they are ranked, and names that are equal are the same.
 use Rattle.std.specs.Prelude.{◌≡◌, Decides, refl}
 use Rattle.std.proofs.Common.{ap}
 use Rattle.std.specs.Cmp.Lexicographic.{bytes_decides}

@@ -1,14 +1,11 @@
 -- The key of a series: its limits and its order.
-use Rattle.std.specs.Prelude.{ℕ, ◌%◌, Bool, cond, ◌&&◌, List, [], ◌∷◌, ℤ, pos, Some, None, Option, int_le, nat_le}
+use Rattle.std.specs.Prelude.{ℕ, ◌%◌, Bool, cond, ◌&&◌, List, [], ◌∷◌, ℤ, Some, None, Option, nat_le}
 use borrow.Author.Differences.{up}
 use Rattle.terms.specs.declared.keys.AskedKey.{AskedKey}
 use Rattle.terms.specs.declared.keys.SeriesKey.{SeriesKey}
 use Rattle.terms.specs.Codes.{proper}
+use Rattle.terms.specs.Limits.{between_limits}
 use Rattle.terms.specs.Words.{kind_number}
-
--- a number from a lowest to a highest
-abbrev pub between_limits : ℤ → ℕ → ℕ → Bool
-between_limits z low high = int_le (pos low) z && int_le z (pos high)
 
 -- yyyymm, 2000 to 2099 and 01 to 12
 abbrev pub month_fits : ℤ → Bool

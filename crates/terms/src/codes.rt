@@ -1,13 +1,14 @@
 //! A code of three capitals: a class's, or a currency's as it is written.
 ghost use Rattle.std.specs.Prelude.{◌≡◌, Some};
-ghost use Rattle.terms.specs.Codes.{proper, code_of, currency_code, currency_of};
+ghost use Rattle.terms.specs.Codes.{proper, lettered, code_of, currency_code, currency_of};
 ghost use Rattle.terms.specs.Limits.{Gives};
 ghost use Rattle.terms.specs.Words.{currency_letters};
 
 use crate::limits::OutsideLimits;
 use crate::words::Currency;
 use std::fmt;
-use std::fmt::Write;
+use std::fmt::{Display, Write};
+use std::str::from_utf8;
 
 #[derive(Clone, Copy, PartialEq, Eq, PartialOrd, Ord, Debug)]
 pub struct Code {
@@ -62,37 +63,29 @@ impl TryFrom<Code> for Currency {
     ghost try_from_gives = { λ code r. Gives (currency_of code) r };
 
     fn try_from(code: Code) -> Result<Currency, OutsideLimits> {
-        match (code.first as char, code.second as char, code.third as char) {
-            ('H', 'K', 'D') => Ok(Currency::Hkd),
-            ('U', 'S', 'D') => Ok(Currency::Usd),
-            ('E', 'U', 'R') => Ok(Currency::Eur),
-            ('J', 'P', 'Y') => Ok(Currency::Jpy),
-            ('R', 'M', 'B') => Ok(Currency::Rmb),
-            _ => Err(OutsideLimits),
-        }
+        Currency::ALL
+            .iter()
+            .find(|currency| code == Code::from(**currency))
+            .copied()
+            .ok_or(OutsideLimits)
     }
 }
 
+/// A code prints as its letters; bytes that are no text are not printed.
 impl fmt::Display for Code {
+    ghost output = { λ c. Some (lettered c) };
+
     fn fmt<W: fmt::Write>(&self, f: &mut fmt::Formatter<W>) -> fmt::Result {
-        for letter in [self.first, self.second, self.third] {
-            f.write_char(char::from(letter))?;
-        }
-        Ok(())
+        let letters = [self.first, self.second, self.third];
+        f.write_str(from_utf8(&letters).map_err(|_| fmt::Error)?)
     }
 }
 
-/// A currency prints as its letters.
+/// A currency prints as its code.
 impl fmt::Display for Currency {
     ghost output = { λ c. Some (currency_letters c) };
 
     fn fmt<W: fmt::Write>(&self, f: &mut fmt::Formatter<W>) -> fmt::Result {
-        f.write_str(match *self {
-            Currency::Hkd => "HKD",
-            Currency::Usd => "USD",
-            Currency::Eur => "EUR",
-            Currency::Jpy => "JPY",
-            Currency::Rmb => "RMB",
-        })
+        Code::from(*self).fmt(f)
     }
 }

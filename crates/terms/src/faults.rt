@@ -47,6 +47,8 @@ impl Fault {
         }
     }
 
+    // One for each part and no generic one: the part's name stands where it is filled, and a closure over the place says no less.
+
     pub fn with_line(self, line: u32) -> Fault
         ensures value { result ≡ with_line line self }
     {

@@ -4,7 +4,7 @@ ghost use Rattle.terms.specs.Keys.{key_of};
 ghost use Rattle.terms.specs.Limits.{Gives};
 
 use crate::codes::Code;
-use crate::limits::OutsideLimits;
+use crate::limits::{OutsideLimits, within};
 use crate::words::Kind;
 
 /// A series as a caller names it: its numbers as given, not yet held against their limits.
@@ -35,21 +35,16 @@ impl TryFrom<AskedKey> for SeriesKey {
         if !asked.class.is_proper() {
             return Err(OutsideLimits);
         }
-        if asked.month < 200_001 || asked.month > 209_912 {
+        let month = within(asked.month, 200_001, 209_912)?;
+        if !(1..=12).contains(&(month % 100)) {
             return Err(OutsideLimits);
         }
-        let month = asked.month as u32;
-        if month % 100 < 1 || month % 100 > 12 {
-            return Err(OutsideLimits);
-        }
-        if asked.strike < 1 || asked.strike > 99_999_999 {
-            return Err(OutsideLimits);
-        }
+        let strike = within(asked.strike, 1, 99_999_999)?;
         Ok(SeriesKey {
             class: asked.class,
             month,
             kind: asked.kind,
-            strike: asked.strike as u32,
+            strike,
         })
     }
 }

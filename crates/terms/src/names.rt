@@ -15,7 +15,7 @@ pub const NAME_WIDTH: usize = 20;
 /// A name, filled with blanks at its right.
 #[derive(Clone, Copy, PartialEq, Eq, PartialOrd, Ord, Debug)]
 pub struct Name {
-    pub text: [u8; 20],
+    pub text: [u8; NAME_WIDTH],
 }
 
 /// The name that a text spells, if it has a name's form.
@@ -28,7 +28,7 @@ impl<'a> TryFrom<&'a [u8]> for Name {
         if !has_form(text) {
             return Err(OutsideLimits);
         }
-        let mut filled = [b' '; 20];
+        let mut filled = [b' '; NAME_WIDTH];
         write_front(&mut filled, text);
         Ok(Name { text: filled })
     }
@@ -37,10 +37,8 @@ impl<'a> TryFrom<&'a [u8]> for Name {
 /// The name without the blanks at its right.
 impl fmt::Display for Name {
     fn fmt<W: fmt::Write>(&self, f: &mut fmt::Formatter<W>) -> fmt::Result {
-        match from_utf8(&self.text) {
-            Ok(text) => f.write_str(text.trim_end()),
-            Err(_) => Err(fmt::Error),
-        }
+        let text = from_utf8(&self.text).map_err(|_| fmt::Error)?;
+        f.write_str(text.trim_end())
     }
 }
 
@@ -63,7 +61,7 @@ fn has_form(text: &[u8]) -> bool
     ensures value { result ≡ name_form text.now }
 {
     let n = text.len();
-    if n < 1 || n > NAME_WIDTH {
+    if !(1..=NAME_WIDTH).contains(&n) {
         return false;
     }
     if text[0] == b' ' || text[n - 1] == b' ' {

@@ -1,4 +1,5 @@
 //! The closed lists of the subject, each with its number.
+// A method and no `From`: `number` says at each use which number is meant, where `usize::from(side)` says nothing of it.
 ghost use Rattle.std.specs.Prelude.{◌≡◌, ◌<◌};
 ghost use Rattle.terms.specs.Words.{currency_number, side_number, leg_number, kind_number, refusal_number, layer_number, label_number};
 

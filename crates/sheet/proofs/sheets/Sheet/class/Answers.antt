@@ -8,6 +8,6 @@ invariant_of-result c =
     let k = (class_at s.classes.now c.args.i).code in
     let is = c.part-series.ensures.value in
     record {
-      inside = inside_of s.series.now c.part-series.result.now k s.whole.series_fit is s.rates s.classes.now c.args.i c.requires s.whole;
+      inside = inside_of s.series.now c.part-series.result.now k s.whole.series_fit is s.rates.by_number s.classes.now c.args.i c.requires s.whole;
       worths = worthy_of s.series.now c.part-series.result.now k s.whole.series_fit is;
     }
