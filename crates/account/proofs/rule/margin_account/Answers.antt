@@ -20,7 +20,7 @@ returns g c =
     let e =
     report_is _ totals.sums _ c.offset-requirement.result.owed _ zs totals.rates (padded 16 n zs long) (to_z-of_z w64 _ f ∙ c.value.ensures.value) o.owed o.requirement
     ∙ ap (report_of zs totals.sums) given in
-    let t = ap (λ r. and_then r (λ t. Ok (report_of t.figures t.sums sheet.rates))) c.in_ok-totals.ensures.answer in
+    let t = ap (λ r. and_then r (λ t. Ok (report_of t.figures t.sums sheet.rates.by_number))) c.in_ok-totals.ensures.answer in
     record {
       answer = ap Ok e ∙ t;
       after = e ∙ ap (λ r. left_in r c.args.report.now) t;

@@ -30,4 +30,4 @@ pub invariant_of-result : goal.invariant_of-result
 invariant_of-result c =
     let self = c.args.self.now in
     let l = c.loop-currency in
-    record { limits = limits_on self.account.sheet self.account.name self.figures.now l.sums c.factors.result (c.factors.ensures.value ∙ ap (λ r. r.by_number) c.rates-rates.ensures.value) (each_filled _ currencies l.currency-index l.sums l.invariant.ahead c.loop-currency-test.false (omega (arith, l.invariant.five))) }
+    record { limits = limits_on self.account.sheet self.account.name self.figures.now l.sums c.factors-rates.result (c.factors-rates.ensures.value ∙ ap (λ r. r.by_number) c.rates.ensures.value) (each_filled _ currencies l.currency-index l.sums l.invariant.ahead c.loop-currency-test.false (omega (arith, l.invariant.five))) }
