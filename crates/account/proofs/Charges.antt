@@ -22,7 +22,7 @@ use Rattle.terms.specs.declared.codes.Code.{Code}
 use Rattle.terms.specs.declared.names.Name.{Name}
 use Rattle.terms.specs.declared.words.Basis.{Basis}
 use Rattle.account.specs.Outcomes.{beyond, and_then, plus}
-use Rattle.account.specs.Pieces.{single, pieces, mark, marks}
+use Rattle.account.specs.Pieces.{single, pieces, mark}
 use Rattle.account.specs.Figures.{in_class, handed_up, amounts, position_figure, class_figure}
 use Rattle.account.proofs.Marks.{marks_of_pieces}
 use Rattle.account.proofs.Outcomes.{never}
@@ -100,16 +100,8 @@ module _ (m : Meaning) (b : Basis) (t : Terms) (p : List ℤ) (z : ℤ) (e : z �
       sym (at_mark ∙ ap (λ (q : Bool). cond q (Err (refused TooLarge Account)) (plus z (amounts m t (pieces b p)))) h
       ∙ ap (λ (x : Result ℤ Fault). plus z x) (sym k))
 
--- the figure of a class is that of its position, with account and class added to a refusal
+-- the figure of a class by what is equal to its code, its terms and its counts
 module _ (name : Name) (code : Code) where
-  placed : (q : Bool) (f : Fault) (z : ℤ) (r : Result ℤ Fault) → handed_up name code (cond q (Err f) (plus z r)) ≡ cond q (Err (in_class name code f)) (plus z (handed_up name code r))
-  placed true f z r = refl
-  placed false f z (Ok x) = refl
-  placed false f z (Err e) = refl
-
-  pub figure_placed : (m : Meaning) (b : Basis) (t : Terms) (p : List ℤ) → handed_up name code (position_figure m b t p) ≡ class_figure m name b code t p
-  figure_placed m b t p = placed (beyond (marks t.rows (pieces b p))) (refused TooLarge Account) (marks t.rows (pieces b p)) (amounts m t (pieces b p))
-
   pub figure_moved : (m : Meaning) (b : Basis) (t u : Terms) (p q : List ℤ) (other : Code) → code ≡ other → t ≡ u → p ≡ q → class_figure m name b code t p ≡ class_figure m name b other u q
   figure_moved m b t u p q other coded given counted = rw (coded, given, counted)
 

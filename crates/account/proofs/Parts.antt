@@ -1,7 +1,8 @@
 -- The part of a list from one place to another: its length and its numbers.
-use Rattle.std.proofs.Common.{◌≡◌, ℕ, ◌+◌, ◌-◌, ◌<◌, ◌≤◌, List, length, take, drop, ℤ, sym, ap, ◌∙◌, ⊎_elim, arith}
+use Rattle.std.proofs.Common.{◌≡◌, ℕ, suc, ◌+◌, ◌-◌, ◌<◌, ◌≤◌, true, List, [], ◌∷◌, length, take, drop, ℤ, refl, sym, ap, ◌∙◌, ⊎_elim, arith, nat_abs}
 use Rattle.std.proofs.lemmas.List.{get_or-take, get_or-drop, get_or_past, length-take, length-drop}
-use Rattle.std.proofs.lemmas.Bool.{cases_lt}
+use Rattle.std.proofs.lemmas.Bool.{cases_lt, and_from, eq-eqb, le-leb}
+use Rattle.charge.specs.Positions.{counts_fit, fits}
 use Rattle.account.specs.Pieces.{Small}
 
 length_part : {X : Type 0} (xs : List X) (a e : ℕ) → a ≤ e → e ≤ length xs → length (take (e - a) (drop a xs)) ≡ e - a
@@ -16,3 +17,11 @@ small_part xs a e h k = ⊎_elim
     (λ (lt : k < e - a). rw (get_or-take, get_or-drop) (h (a + k)))
     (λ (le : e - a ≤ k). let p : length (take (e - a) (drop a xs)) ≤ k = simp length-take (omega arith) in rw get_or_past (omega arith))
     (cases_lt k (e - a))
+
+-- small counts, as many as there are series, are a position
+pub small_fits_class : (n : ℕ) (p : List ℤ) → length p ≡ n → Small p → fits n p ≡ true
+small_fits_class n p e h = and_from _ _ (eq-eqb (length p) n e) (small p h)
+  where
+    small : (q : List ℤ) → Small q → counts_fit q ≡ true
+    small [] w = refl
+    small (x ∷ q) w = and_from _ _ (le-leb (nat_abs x) 3200000 (w 0)) (small q (λ k. w (suc k)))

@@ -1,9 +1,8 @@
 -- Currency sums and values are formed from the front; accepted sums lie within their limit, and a debit has a rate.
-use Rattle.std.proofs.Common.{◌≡◌, ℕ, zero, suc, ◌+◌, ◌*◌, ◌<◌, ◌≤◌, Bool, true, false, cond, List, [], ◌∷◌, length, get_or, drop, ℤ, pos, negsuc, ◌+ℤ◌, ◌*ℤ◌, nat_abs, Ok, Err, Result, refl, ap, ⊎_elim, arith}
+use Rattle.std.proofs.Common.{◌≡◌, ℕ, zero, suc, ◌+◌, ◌*◌, ◌<◌, ◌≤◌, Bool, true, false, cond, List, [], ◌∷◌, length, get_or, ℤ, pos, negsuc, ◌+ℤ◌, ◌*ℤ◌, nat_abs, Ok, Err, Result, refl, ap, ⊎_elim, arith}
 use lib.IntN.{+ℤ_idl}
 use Rattle.std.specs.List.{All as AllAt, AllByRecursion as All}
 use Rattle.std.specs.Prelude.{IsTrue}
-use Rattle.std.proofs.lemmas.List.{drop_more}
 use Rattle.std.proofs.lemmas.Bool.{cases_lt, cases_Bool, ltb-false, eqb-true, and_parts, ltb-true}
 use Rattle.terms.specs.declared.faults.Fault.{Fault}
 use Rattle.terms.specs.declared.names.Name.{Name}
@@ -15,9 +14,9 @@ use denote.Enum.Bare.{sameb}
 use Rattle.terms.specs.Words.{currency_number}
 use Rattle.sheet.specs.declared.rows.ClassRow.{ClassRow}
 use Rattle.sheet.specs.Limits.{quoted, class_fits}
-use Rattle.sheet.specs.Given.{no_class}
 use Rattle.std.proofs.lemmas.List.Elements.{recursion_from_All}
 use Rattle.account.specs.Outcomes.{beyond, and_then, onto, each}
+use Rattle.account.specs.Figures.{Bounded}
 use Rattle.account.specs.Sums.{currencies, currency_at, same_currency, sum_of, currency_too_large, currency_sum, sums_of, value_of}
 use Rattle.account.specs.Offset.{debit, credit, fund_of, Limits}
 use Rattle.account.proofs.Outcomes.{never}
@@ -33,10 +32,16 @@ tagged Rmb = refl
 pub same_is : (a b : Currency) → sameb the_type a b ≡ same_currency a b
 same_is a b = rw (tagged a, tagged b)
 
--- one step of the loop over the class figures
-pub sum_more : (c : Currency) (ks : List ClassRow) (zs : List ℤ) (i : ℕ) → i < length ks → i < length zs →
-    sum_of c (drop i ks) (drop i zs) ≡ cond (same_currency (get_or ks i no_class).currency c) (get_or zs i (pos 0)) (pos 0) +ℤ sum_of c (drop (i + 1) ks) (drop (i + 1) zs)
-sum_more c ks zs i p q = rw (drop_more ks i no_class, drop_more zs i (pos 0))
+-- one class figure, and the figures after it: what the loop over classes and figures has ahead of it
+pub bounded_ahead : (all : List ℤ) (z : ℤ) (zs : List ℤ) → all ≡ z ∷ zs → Bounded all → (nat_abs z ≤ 12900000000000) × Bounded zs
+bounded_ahead all z zs e w = let h : Bounded (z ∷ zs) = rw e at w in (h 0, λ k. h (suc k))
+
+pub sum_ahead : (c : Currency) (ks : List ClassRow) (zs : List ℤ) (r : ClassRow) (rs : List ClassRow) (x : ℤ) (xs : List ℤ) → ks ≡ r ∷ rs → zs ≡ x ∷ xs → sum_of c ks zs ≡ cond (same_currency r.currency c) x (pos 0) +ℤ sum_of c rs xs
+sum_ahead c ks zs r rs x xs p q = rw (p, q)
+
+pub sum_none : (c : Currency) (ks : List ClassRow) → sum_of c ks [] ≡ pos 0
+sum_none c [] = refl
+sum_none c (k ∷ ks) = refl
 
 -- one currency, and the currencies after it: what a loop over sums and rates has ahead of it
 module _ (all : List ℤ) (rates : List ℕ) (s : ℤ) (ss : List ℤ) (r : ℕ) (rs : List ℕ) (first : all ≡ s ∷ ss) (second : rates ≡ r ∷ rs) where

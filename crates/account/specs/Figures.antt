@@ -20,11 +20,7 @@ use Rattle.account.specs.Pieces.{pieces, marks}
 abbrev pub in_class : Name → Code → Fault → Fault
 in_class name code f = with_class code (with_account name f)
 
--- A class whose mark to market is too large: refusal 9 of the account's layer, with account and class.
-abbrev pub class_too_large : Name → Code → Fault
-class_too_large name code = in_class name code (refused TooLarge Account)
-
--- A charge's own fault goes up whole, with account and class added to its place.
+-- A fault goes up whole, with account and class added to its place.
 abbrev pub handed_up : Name → Code → Result ℤ Fault → Result ℤ Fault
 handed_up name code (Ok z) = Ok z
 handed_up name code (Err f) = Err (in_class name code f)
@@ -34,17 +30,15 @@ abbrev pub amounts : Meaning → Terms → List (List ℤ) → Result ℤ Fault
 amounts m t [] = Ok (pos 0)
 amounts m t (p ∷ ps) = and_then (amount_answer m t p) (λ x. plus x (amounts m t ps))
 
--- The figure of a position: the mark to market of its pieces, which must not be too large, and then their charges; a refusal names no place yet.
+-- The figure of a position: the mark to market of its pieces, and then their charges; a mark that is too large is refusal 9 of the account's layer. A refusal names no place yet.
 abbrev pub position_figure : Meaning → Basis → Terms → List ℤ → Result ℤ Fault
 position_figure m b t position =
     cond (beyond (marks t.rows (pieces b position))) (Err (refused TooLarge Account))
     (plus (marks t.rows (pieces b position)) (amounts m t (pieces b position)))
 
--- The figure of a class: the mark to market of its pieces, which must not be too large, and then their charges.
+-- The figure of a class is that of its position; the mark's refusal and a charge's own fault go up with account and class.
 abbrev pub class_figure : Meaning → Name → Basis → Code → Terms → List ℤ → Result ℤ Fault
-class_figure m name b code t position =
-    cond (beyond (marks t.rows (pieces b position))) (Err (class_too_large name code))
-    (plus (marks t.rows (pieces b position)) (handed_up name code (amounts m t (pieces b position))))
+class_figure m name b code t position = handed_up name code (position_figure m b t position)
 
 -- The figure of a class row: its terms and series, and the counts that stand beside these.
 abbrev pub figure_of : Meaning → Name → Basis → List Series → List ℤ → ClassRow → Result ℤ Fault

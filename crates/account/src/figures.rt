@@ -6,8 +6,9 @@ ghost use Rattle.account.specs.Figures.{Bounded};
 ghost use Rattle.account.specs.Accounts.{figure_on, figures_on};
 
 use crate::accounts::Account;
-use crate::positions::Position;
+use crate::positions::position_figure;
 use charge::charges::Charge;
+use charge::positions::Position;
 use terms::faults::Fault;
 
 /// An account with a margined count for each series of its sheet, at most 3,200,000 in size.
@@ -28,13 +29,14 @@ impl MarginedCounts<'_> {
     {
         let account = self.account;
         let code = account.sheet.class_row(i).code;
+        let class = account.sheet.class(i);
         let position = Position {
-            class: account.sheet.class(i),
+            class: &class,
             counts: &self.counts[account.sheet.span(i)],
         };
-        position
-            .figure(charge, account.basis)
-            .map_err(|fault| fault.with_account(account.name).with_class(code))
+        position_figure(charge, &position, account.basis).map_err(|fault| fault
+            .with_account(account.name)
+            .with_class(code))
     }
 
     /// Fills the class figures, class by class, up to the first refusal.

@@ -26,8 +26,8 @@ impl ClassFigures<'_> {
         ensures value { result ≡ sum_of wanted self.now.account.sheet.classes.now self.now.figures.now }
     {
         let mut sum = 0;
-        for (i, &figure) in self.figures.iter().enumerate() {
-            if self.account.sheet.class_row(i).currency == wanted {
+        for (row, &figure) in self.account.sheet.class_rows().iter().zip(self.figures) {
+            if row.currency == wanted {
                 sum += figure;
             }
         }

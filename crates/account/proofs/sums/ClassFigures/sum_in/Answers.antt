@@ -1,29 +1,36 @@
-use Rattle.std.proofs.Common.{◌≡◌, get_or, pos, ◌+ℤ◌, sym, ap, ◌∙◌, arith, w64, to_z}
+use Rattle.std.proofs.Common.{length, sym, ap, ◌∙◌, arith}
 use borrow.Author.Differences.{ints}
-use Rattle.sheet.specs.declared.rows.ClassRow.{ClassRow}
-use Rattle.account.specs.Sums.{same_currency}
+use Rattle.std.proofs.lemmas.List.{nil_from_length}
 use Rattle.account.proofs.Kit.{sum_back, abs_add}
-use Rattle.account.proofs.Totals.{same_is, sum_more}
-use Rattle.account.proofs.sums.ClassFigures.sum_in.Goals.{then-eq, else-eq}
+use Rattle.account.proofs.Totals.{same_is, bounded_ahead, sum_ahead, sum_none}
 use Rattle.account.proofs.sums.ClassFigures.sum_in.Goals as goal
 
-pub loop-i-preserved : goal.loop-i-preserved
-loop-i-preserved c =
-    let self = c.args.self.now in
-    let classes = self.account.sheet.classes.now in
-    let i = c.loop-i.i in
-    let z = get_or self.figures.now i (pos 0) in
-    let small = self.bounded i in
-    let e = c.loop-i.sum-is in
-    let inv = rw e at c.loop-i.invariant in
-    let same = sym (c.eq.ensures ∙ same_is _ _ ∙ ap (λ (k : ClassRow). same_currency k.currency c.args.wanted) c.class_row.ensures.value) in
-    let more = sum_more c.args.wanted classes self.figures.now i (omega arith) (omega arith) in
-    elim c.if-eq.branch [
-      | then-eq w ↦
-          let b : to_z w64 c.if-eq.sum-bits ≡ c.loop-i.sum +ℤ z = w.sum-is ∙ rw e (sum_back c.loop-i.sum z (omega (arith, inv.bound, small))) in
-          let m = rw (same ∙ w.if-eq.true) at more in
-          rw b (record { bound = omega (arith, abs_add c.loop-i.sum z, inv.bound, small); ahead = omega (arith, ints, m, inv.ahead) })
-      | else-eq w ↦
-          let m = rw (same ∙ w.if-eq.false) at more in
-          rw (w.sum-is, e) (record { bound = omega (arith, inv.bound); ahead = omega (arith, ints, m, inv.ahead) })
-    ]
+pub loop-row-preserved-then-eq : goal.loop-row-preserved-then-eq
+loop-row-preserved-then-eq c =
+    let now = c.in-Some.ensures.steps in
+    let z = c.in-Some.field-0-1.now in
+    let e = c.loop-row.sum-is in
+    let i = rw e at c.loop-row.invariant in
+    let small = bounded_ahead _ _ _ now.1 i.bounded in
+    let b = sum_back c.loop-row.sum z (omega (arith, i.bound, small.0, ap length now.0)) in
+    let same = sym (same_is _ _) ∙ sym c.eq.ensures ∙ c.if-eq.true in
+    record {
+      bounded = small.1;
+      bound = rw (e, b) (omega (arith, abs_add c.loop-row.sum z, i.bound, small.0, ap length now.0));
+      ahead = rw (e, b) (omega (arith, ints, i.ahead, rw same at (sum_ahead c.args.wanted _ _ _ _ _ _ now.0 now.1)));
+    }
+
+pub loop-row-preserved : goal.loop-row-preserved
+loop-row-preserved c =
+    let now = c.in-Some.ensures.steps in
+    let e = c.loop-row.sum-is in
+    let i = rw e at c.loop-row.invariant in
+    let same = sym (same_is _ _) ∙ sym c.eq.ensures ∙ c.if-eq.false in
+    record {
+      bounded = (bounded_ahead _ _ _ now.1 i.bounded).1;
+      bound = rw e (omega (arith, i.bound, ap length now.0));
+      ahead = rw e (omega (arith, ints, i.ahead, rw same at (sum_ahead c.args.wanted _ _ _ _ _ _ now.0 now.1)));
+    }
+
+pub returns : goal.returns
+returns c = record { value = grind (arith, ints, nil_from_length, sum_none) }

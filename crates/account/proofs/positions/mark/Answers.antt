@@ -1,9 +1,17 @@
-use Rattle.std.proofs.Common.{length, ap, arith}
+use Rattle.std.proofs.Common.{length, ap, arith, rules}
 use borrow.Author.Differences.{ints}
 use Rattle.std.proofs.lemmas.List.{nil_from_length}
+use Rattle.charge.proofs.Dots.{fits_parts}
 use Rattle.account.proofs.Kit.{back, sum_back, abs_add}
 use Rattle.account.proofs.Marks.{worths_ahead, small_ahead, mark_ahead, mark_none}
-use Rattle.account.proofs.positions.Position.mark.Goals as goal
+use Rattle.account.proofs.positions.mark.Goals as goal
+
+pub loop-row-init : goal.loop-row-init
+loop-row-init c =
+    let position = c.args.position.now in
+    let parts = fits_parts (length position.class.now.series.now) position.counts.now position.fits_class in
+    let worths = position.class.now.worths in
+    search rules
 
 pub line_mark-sum-requires-clause-worth : goal.line_mark-sum-requires-clause-worth
 line_mark-sum-requires-clause-worth c = let now = c.in-Some.ensures.steps in (worths_ahead _ _ _ now.0 c.loop-row.invariant.worths).0

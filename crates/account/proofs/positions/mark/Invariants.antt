@@ -1,7 +1,7 @@
 use Rattle.std.proofs.Common.{◌≡◌, ◌+◌, ◌*◌, ◌≤◌, length, ◌+ℤ◌, nat_abs}
 use Rattle.sheet.specs.Limits.{Worthy}
 use Rattle.account.specs.Pieces.{mark, Small}
-use Rattle.account.proofs.positions.Position.mark.Given as goal
+use Rattle.account.proofs.positions.mark.Given as goal
 
 abbrev pub invariant-loop-row : goal.invariant-loop-row
 invariant-loop-row l =
@@ -11,5 +11,5 @@ invariant-loop-row l =
       worths : Worthy rows;
       small : Small counts;
       bound : nat_abs l.sum + length rows * 32000000000000 ≤ 4096000000000000;
-      ahead : l.sum +ℤ mark rows counts ≡ mark l.self.class.series.now l.self.counts.now;
+      ahead : l.sum +ℤ mark rows counts ≡ mark l.position.class.now.series.now l.position.counts.now;
     }

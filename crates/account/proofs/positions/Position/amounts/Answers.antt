@@ -1,6 +1,0 @@
-use Rattle.sheet.specs.Plain.{plain}
-use Rattle.account.proofs.Charges.{amount_made}
-use Rattle.account.proofs.positions.Position.amounts.Goals as goal
-
-pub returns-in-Net-clause-bound : goal.returns-in-Net-clause-bound
-returns-in-Net-clause-bound g c = amount_made (g.C.Charge.meaning c.args.charge.now) (plain c.args.self.now.class) c.args.self.now.counts.now c.amount.result c.amount.ensures.answer
