@@ -5,7 +5,7 @@ ghost use Rattle.charge.specs.Meanings.{minimum};
 ghost use Rattle.charge.specs.Lawful.{minimum_lawful};
 
 use crate::charges::Charge;
-use crate::positions::{Position, judge, limited, no_allowance};
+use crate::positions::{Position, limited, no_allowance};
 use sheet::classes::Class;
 use terms::faults::Fault;
 use terms::words::{Kind, Label};
@@ -34,8 +34,7 @@ impl Charge for Minimum {
     ghost lawful = { λ s. minimum_lawful };
 
     fn amount(&self, class: &Class, counts: &[i64]) -> Result<i64, Fault> {
-        judge(class, counts, Label::Minimum)?;
-        let position = Position { class, counts };
+        let position = Position::judged(class, counts, Label::Minimum)?;
         let calls = position.shorts(Kind::Call);
         let puts = position.shorts(Kind::Put);
         limited(calls.max(puts) * class.minimum_rate as u64, Label::Minimum)

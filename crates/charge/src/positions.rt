@@ -1,5 +1,6 @@
 //! A position of a class, and the limit of a figure.
-ghost use Rattle.std.specs.Prelude.{◌≡◌, ◌&&◌, true, length};
+ghost use Rattle.std.specs.Prelude.{◌≡◌, ◌&&◌, true, length, IfOk};
+ghost use Rattle.std.specs.Result.{result_map_both};
 ghost use Rattle.charge.specs.Positions.{fits};
 ghost use Rattle.charge.specs.Answers.{answer, judged, limited};
 
@@ -31,14 +32,22 @@ pub fn fitting(class: &Class, counts: &[i64]) -> bool
             .all(|count| count.unsigned_abs() <= COUNT_LIMIT)
 }
 
-/// Refuses counts that are no position of the class, with the label of the charge that refuses them.
-pub fn judge(class: &Class, counts: &[i64], label: Label) -> Result<(), Fault>
-    ensures answer { result ≡ judged (fits (length class.now.series.now) counts.now) label }
-{
-    if !fitting(class, counts) {
-        return Err(Fault::new(Refusal::Limit, Layer::Charge).with_label(label));
+impl<'a> Position<'a> {
+    /// The counts as a position of the class, refused with the label of the charge where they are none.
+    pub fn judged(
+        class: &'a Class<'a>,
+        counts: &'a [i64],
+        label: Label,
+    ) -> Result<Position<'a>, Fault>
+        ensures answer { result_map_both (λ _. tt) (λ f. f) result ≡ judged (fits (length class.now.series.now) counts.now) label }
+        ensures class { IfOk result (λ p. p.class.now ≡ class.now) }
+        ensures counts { IfOk result (λ p. p.counts.now ≡ counts.now) }
+    {
+        if !fitting(class, counts) {
+            return Err(Fault::new(Refusal::Limit, Layer::Charge).with_label(label));
+        }
+        Ok(Position { class, counts })
     }
-    Ok(())
 }
 
 /// The allowance of a charge that never costs more when two positions are joined.
@@ -46,8 +55,8 @@ pub fn judge(class: &Class, counts: &[i64], label: Label) -> Result<(), Fault>
 pub fn no_allowance(class: &Class, one: &[i64], other: &[i64], label: Label) -> Result<i64, Fault>
     ensures answer { result ≡ answer (fits (length class.now.series.now) one.now && fits (length class.now.series.now) other.now) 0 label label }
 {
-    judge(class, one, label)?;
-    judge(class, other, label)?;
+    Position::judged(class, one, label)?;
+    Position::judged(class, other, label)?;
     Ok(0)
 }
 

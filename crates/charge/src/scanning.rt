@@ -5,7 +5,7 @@ ghost use Rattle.charge.specs.Meanings.{scanning};
 ghost use Rattle.charge.specs.Lawful.{scanning_lawful};
 
 use crate::charges::Charge;
-use crate::positions::{Position, judge, limited, no_allowance};
+use crate::positions::{Position, limited, no_allowance};
 use sheet::classes::Class;
 use terms::faults::Fault;
 use terms::words::Label;
@@ -34,8 +34,7 @@ impl Charge for Scanning {
     ghost lawful = { λ s. scanning_lawful };
 
     fn amount(&self, class: &Class, counts: &[i64]) -> Result<i64, Fault> {
-        judge(class, counts, Label::Scanning)?;
-        let position = Position { class, counts };
+        let position = Position::judged(class, counts, Label::Scanning)?;
         let worst = (0..16).map(|k| position.loss(k)).fold(0, i64::max);
         limited(worst as u64, Label::Scanning)
     }

@@ -6,7 +6,7 @@ ghost use Rattle.charge.specs.Meanings.{spreading};
 ghost use Rattle.charge.specs.Lawful.{spreading_lawful};
 
 use crate::charges::Charge;
-use crate::positions::{Position, judge, limited};
+use crate::positions::{Position, limited};
 use sheet::classes::Class;
 use sheet::rows::Series;
 use terms::faults::Fault;
@@ -98,20 +98,14 @@ impl Charge for Spread {
     ghost lawful = { λ s. spreading_lawful };
 
     fn amount(&self, class: &Class, counts: &[i64]) -> Result<i64, Fault> {
-        judge(class, counts, Label::Spread)?;
-        let position = Position { class, counts };
+        let position = Position::judged(class, counts, Label::Spread)?;
         let (longs, shorts) = position.sides();
         limited(at_rate(class, longs.min(shorts)), Label::Spread)
     }
 
     fn allowance(&self, class: &Class, one: &[i64], other: &[i64]) -> Result<i64, Fault> {
-        judge(class, one, Label::Spread)?;
-        judge(class, other, Label::Spread)?;
-        let one = Position { class, counts: one };
-        let other = Position {
-            class,
-            counts: other,
-        };
+        let one = Position::judged(class, one, Label::Spread)?;
+        let other = Position::judged(class, other, Label::Spread)?;
         limited(
             at_rate(class, crossing_of(one.lean(), other.lean())),
             Label::Spread,

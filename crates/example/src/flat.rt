@@ -4,7 +4,7 @@ ghost use Rattle.example.specs.Flat.{flat, gross};
 ghost use Rattle.example.specs.FlatChargeLemmas.{flat_lawful};
 
 use charge::charges::Charge;
-use charge::positions::{Position, judge, limited, no_allowance};
+use charge::positions::{Position, limited, no_allowance};
 use sheet::classes::Class;
 use terms::faults::Fault;
 use terms::words::Label;
@@ -35,8 +35,7 @@ impl Charge for FlatRate {
     ghost lawful = { λ s. flat_lawful s.cents };
 
     fn amount(&self, class: &Class, counts: &[i64]) -> Result<i64, Fault> {
-        judge(class, counts, OWN)?;
-        let position = Position { class, counts };
+        let position = Position::judged(class, counts, OWN)?;
         limited(gross_of(&position) * self.cents as u64, OWN)
     }
 

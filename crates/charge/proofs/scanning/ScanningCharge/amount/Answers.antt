@@ -21,4 +21,4 @@ overflow_cast-worst c = let e = worst_of c in casts c.fold-worst.result (search 
 pub returns : goal.returns
 returns c =
     let e = worst_of c.before in
-    record { answer = answered _ _ _ _ _ (passed _ _ _ c.in_ok-judge.ensures.answer) (c.limited.ensures.answer ∙ ap (λ n. limited n Own) (omega (arith, ints))) }
+    record { answer = answered _ _ _ _ _ (passed _ _ _ c.in_ok-position.ensures.answer) (c.limited.ensures.answer ∙ ap (λ n. limited n Own) (omega (arith, ints))) }
