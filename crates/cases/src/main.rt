@@ -8,7 +8,6 @@ use closing::days::{Day, margin_day};
 use std::alloc::AllocError;
 use std::io;
 use std::io::Read;
-use stream::reading::Stop;
 use terms::words::{Currency, Side};
 
 fn main(rt: HostRuntime) -> io::Result<()> {
@@ -63,8 +62,7 @@ fn add_lines(input: &mut Vec<u8>, text: &str, times: u32) -> Result<(), AllocErr
 fn judge(rt: &HostRuntime, input: &[u8]) -> io::Result<()> {
     match margin_day(input) {
         Ok(day) => accept(rt, &day),
-        Err(Stop::Refused(fault)) => println!(rt; "{fault}"),
-        Err(_) => println!(rt; "not read"),
+        Err(stop) => println!(rt; "{stop}"),
     }
 }
 

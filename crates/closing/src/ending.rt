@@ -9,18 +9,13 @@ pub fn close(rt: &HostRuntime) -> ExitCode {
     let Err(stop) = report(rt) else {
         return ExitCode::SUCCESS;
     };
-    match stop {
+    let _ = match stop {
         Stop::Refused(fault) => {
             print_fault(rt, fault);
-            let _ = eprintln!(rt; "{fault}");
+            eprintln!(rt; "{fault}")
         }
-        Stop::Unread => {
-            let _ = eprintln!(rt; "margin: standard input cannot be read.");
-        }
-        Stop::Unwritten => {
-            let _ = eprintln!(rt; "margin: standard output cannot be written.");
-        }
-    }
+        _ => eprintln!(rt; "margin: {stop}"),
+    };
     ExitCode::FAILURE
 }
 

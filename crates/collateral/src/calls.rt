@@ -8,6 +8,7 @@ use crate::ledger::Ledger;
 use crate::records::Collateral;
 use sheet::sheets::Sheet;
 use terms::faults::Fault;
+use terms::limits::OutsideLimits;
 use terms::words::{Currency, Layer, Refusal, Side};
 
 /// The most cents of one deposit.
@@ -34,14 +35,14 @@ impl Ledger {
         ensures after { self.new.records ≡ deposit_after (refusal result) self.old.records side currency cents }
         ensures kept { self.new.rates ≡ self.old.rates }
     {
-        if cents < 1 || cents > DEPOSIT_LIMIT {
-            return Err(Fault::new(Refusal::Limit, Layer::Book));
+        if !(1..=DEPOSIT_LIMIT).contains(&cents) {
+            return Err(OutsideLimits.into());
         }
         if !self.rates.quotes(currency) {
             return Err(Fault::new(Refusal::Unknown, Layer::Book).with_currency(currency));
         }
         let record = &mut self.records[side.number()][currency.number()];
-        let raised = record.held + cents as u64;
+        let raised = record.held + cents.unsigned_abs();
         if raised > COLLATERAL_LIMIT {
             return Err(Fault::new(Refusal::Ceiling, Layer::Book).with_currency(currency));
         }

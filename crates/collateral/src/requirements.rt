@@ -1,15 +1,16 @@
 //! A side's requirement: what its accounts owe together.
 ghost use Rattle.std.specs.Prelude.{◌≡◌, ◌≤◌};
+ghost use Rattle.collateral.specs.declared.statements.TheConstants.{OWED_LIMIT};
 ghost use Rattle.collateral.specs.Requirements.{owed_by, requirement_of};
 
-use crate::statements::{Statement, Statements};
+use crate::statements::{OWED_LIMIT, Statement, Statements};
 use terms::words::{Currency, Side};
 
 impl Statement {
     /// What it adds to a side's requirement in a currency: what it owes, where it settles through that side.
     fn adds(&self, side: Side, currency: Currency) -> u64
         ensures value { result ≡ owed_by side currency self.now }
-        ensures bound { result ≤ 100000000000 }
+        ensures bound { result ≤ OWED_LIMIT }
     {
         if self.side == side {
             self.owed[currency.number()]

@@ -36,7 +36,7 @@ pub fn draw_up<C: Charge>(charge: &C, book: &Book) -> Result<Statements, Fault> 
     let mut statements = Statements::new();
     for k in 0..book.account_count() {
         if let Some(row) = book.account(k) {
-            statements.push(draw_one(charge, book, row)?);
+            statements.push(draw_one(charge, book, row)?)?;
         }
     }
     Ok(statements)

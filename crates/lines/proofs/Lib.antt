@@ -6,3 +6,4 @@ pub mod Justified
 pub mod Trims
 pub mod Rows
 pub mod Printed
+pub mod Bytes

@@ -3,4 +3,3 @@ pub mod Fields
 pub mod Records
 pub mod Report
 pub mod Turns
-pub mod Widths

@@ -6,4 +6,5 @@ mod names;
 pub mod reader;
 pub mod record;
 pub mod report;
+pub mod widths;
 mod words;

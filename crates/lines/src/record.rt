@@ -211,17 +211,17 @@ pub fn read_line<'a>(line: &'a [u8], values: &mut [i64; 8]) -> Option<Record<'a>
     ensures keeps { MatchOption result (values.new ≡ values.old) (λ x. Kept values.old values.new x) }
 {
     let (letter, rest) = line.split_first()?;
-    match *letter as char {
-        'C' => read_class(rest),
-        'S' => read_series(rest),
-        'R' => read_array(rest, values),
-        'X' => read_rate(rest),
-        'E' => read_end(rest),
-        'A' => read_account(rest),
-        'P' => read_post(rest),
-        'Q' => read_close_out(rest),
-        'M' => read_move(rest),
-        'D' => read_deposit(rest),
+    match letter {
+        b'C' => read_class(rest),
+        b'S' => read_series(rest),
+        b'R' => read_array(rest, values),
+        b'X' => read_rate(rest),
+        b'E' => read_end(rest),
+        b'A' => read_account(rest),
+        b'P' => read_post(rest),
+        b'Q' => read_close_out(rest),
+        b'M' => read_move(rest),
+        b'D' => read_deposit(rest),
         _ => None,
     }
 }

@@ -1,5 +1,5 @@
 //! The lines of an input, one after the other.
-ghost use Rattle.std.specs.Prelude.{◌≡◌, ◌<◌, ◌≤◌, ◌+◌, ◌-◌, ◌++◌, ℕ, List, length, take, IfOk, IfSome, IfNone};
+ghost use Rattle.std.specs.Prelude.{◌≡◌, ◌<◌, ◌≤◌, ◌+◌, ◌-◌, ◌++◌, ℕ, List, length, take, [], IfOk, IfSome, IfNone, MatchOption};
 ghost use Rattle.std.specs.Borrow.{sem};
 ghost use Rattle.std.specs.Io.BufRead.{Rests};
 ghost use Rattle.std.specs.Io.KnownBytes.{Keeps, IsAtEnd};
@@ -48,28 +48,28 @@ impl<R: Read> LineReader<R> {
         ensures line { Hands (unread R.remaining self.old) result }
         ensures* rest { sem 𝓛 (Rests (the_row R.row) self.entry (λ reader. Leaves (unread R.remaining self.old) (unread R.remaining reader) result)) }
     {
-        let size = self.next_size()?;
-        if size == 0 {
+        let Some(size) = self.next_size()? else {
             return Ok(None);
-        }
+        };
         let from = self.from;
         self.from = from + size;
         let bytes = &self.bytes;
         Ok(Some(&bytes[from..from + size]))
     }
 
-    /// Reads on until the size of the next line is seen; 0 at the end of the input.
-    fn next_size(&mut self) -> Result<usize, Stop>
-        ensures within { IfOk result (λ n. self.new.from + n ≤ self.new.to) }
+    /// Reads on until the size of the next line is seen; none at the end of the input.
+    fn next_size(&mut self) -> Result<Option<usize>, Stop>
+        ensures within { IfOk result (λ size. IfSome size (λ n. self.new.from + n ≤ self.new.to)) }
         ensures keeps { Keeps (unread R.remaining self.old) (unread R.remaining self.new) }
-        ensures first { IfSome (unread R.remaining self.old) (λ xs. IfOk result (λ n. first_line xs ≡ take n (held self.new))) }
+        ensures first { IfSome (unread R.remaining self.old) (λ xs. IfOk result (λ size. MatchOption size (xs ≡ []) (λ n. first_line xs ≡ take n (held self.new)))) }
     {
         loop {
             if let Some(size) = line_size(&self.bytes[self.from..self.to]) {
-                return Ok(size);
+                return Ok(Some(size));
             }
             if self.refill()? == 0 {
-                return Ok(self.to - self.from);
+                let size = self.to - self.from;
+                return Ok((size > 0).then_some(size));
             }
         }
     }
@@ -83,9 +83,10 @@ impl<R: Read> LineReader<R> {
         self.bytes.copy_within(self.from..self.to, 0);
         self.to -= self.from;
         self.from = 0;
-        let Ok(n) = self.input.read(&mut self.bytes[self.to..]) else {
-            return Err(Stop::Unread);
-        };
+        let n = self
+            .input
+            .read(&mut self.bytes[self.to..])
+            .map_err(|_| Stop::Unread)?;
         self.to += n;
         Ok(n)
     }

@@ -45,20 +45,20 @@ number_width Notice = omega arith
 field_width : (f : List ℕ) (fs : List (List ℕ)) → length (laid (f ∷ fs)) ≡ 1 + length f + length (laid fs)
 field_width f fs = omega (arith, length-append f (laid fs))
 
-pub owed_width : (name : Name) (currency : Currency) (owed : ℕ) → length (spelled name) ≡ 20 → owed < 10 ^ 13 → length (owed_line name currency owed) ≡ 41
-owed_width name currency owed twenty fits =
+pub owed_bytes : (name : Name) (currency : Currency) (owed : ℕ) → length (spelled name) ≡ 20 → owed < 10 ^ 13 → length (owed_line name currency owed) ≡ 41
+owed_bytes name currency owed twenty fits =
     let k = currency_letters currency in
     omega (arith, field_width (spelled name) (k ∷ amount owed ∷ []), field_width k (amount owed ∷ []), field_width (amount owed) [], letters_width currency, amount_width owed fits)
 
-pub call_width : (side : Side) (currency : Currency) (requirement call : ℕ) → requirement < 10 ^ 13 → call < 10 ^ 13 → length (call_line side currency requirement call) ≡ 36
-call_width side currency requirement call fits call_fits =
+pub call_bytes : (side : Side) (currency : Currency) (requirement call : ℕ) → requirement < 10 ^ 13 → call < 10 ^ 13 → length (call_line side currency requirement call) ≡ 36
+call_bytes side currency requirement call fits call_fits =
     let k = currency_letters currency in
     let m = amount requirement in
     let n = amount call in
     omega (arith, field_width k (m ∷ n ∷ []), field_width m (n ∷ []), field_width n [], letters_width currency, amount_width requirement fits, amount_width call call_fits)
 
-pub fault_width : (line : ℕ) (refusal : Refusal) → line < 10 ^ 7 → length (fault_line line refusal) ≡ 13
-fault_width line refusal fits =
+pub fault_bytes : (line : ℕ) (refusal : Refusal) → line < 10 ^ 7 → length (fault_line line refusal) ≡ 13
+fault_bytes line refusal fits =
     let at = column 7 (pos line) in
     let number = refusal_number refusal in
     let two : length (column 2 (pos number)) ≡ 2 = column_width 2 number (omega arith) (number_width refusal) (omega (arith, number_width refusal)) in
