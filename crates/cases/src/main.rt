@@ -33,17 +33,20 @@ fn run(rt: &HostRuntime, case: &[&str]) -> io::Result<()> {
     judge(rt, input.as_slice())
 }
 
+/// How many lines a line of the script stands for, and their text.
+fn repeated(line: &str) -> Option<(u32, &str)> {
+    let (times, text) = line.strip_prefix('*')?.split_once('|')?;
+    Some((times.parse().ok()?, text))
+}
+
 /// Adds what a line of the script stands for.
 fn add(input: &mut Vec<u8>, line: &str) -> Result<(), AllocError> {
     if let Some(text) = line.strip_prefix('|') {
         add_lines(input, text, 1)
     } else if let Some(text) = line.strip_prefix('+') {
         input.extend_from_slice(text.as_bytes())
-    } else if let Some((times, text)) = line
-        .strip_prefix('*')
-        .and_then(|line| line.split_once('|'))
-    {
-        add_lines(input, text, times.parse::<u32>().unwrap_or(0))
+    } else if let Some((times, text)) = repeated(line) {
+        add_lines(input, text, times)
     } else {
         Ok(())
     }

@@ -9,15 +9,13 @@ use terms::words::{Currency, Side};
 /// What each account owes, in opening order and currency order.
 fn print_owed(rt: &HostRuntime, day: &Day) -> Result<(), Stop> {
     for statement in day.statements.as_slice() {
-        for currency in Currency::ALL {
-            if day.rates.quotes(currency) {
-                let line = OwedLine {
-                    name: statement.name,
-                    currency,
-                    owed: statement.owed[currency.number()],
-                };
-                print!(rt; "{line}").map_err(|_| Stop::Unwritten)?;
-            }
+        for currency in Currency::ALL.into_iter().filter(|c| day.rates.quotes(*c)) {
+            let line = OwedLine {
+                name: statement.name,
+                currency,
+                owed: statement.owed[currency.number()],
+            };
+            print!(rt; "{line}").map_err(|_| Stop::Unwritten)?;
         }
     }
     Ok(())
@@ -25,18 +23,16 @@ fn print_owed(rt: &HostRuntime, day: &Day) -> Result<(), Stop> {
 
 /// What one side has to bring and is called for, in currency order.
 fn print_calls(rt: &HostRuntime, day: &Day, side: Side) -> Result<(), Stop> {
-    for currency in Currency::ALL {
-        if day.rates.quotes(currency) {
-            let requirement = day.statements.requirement(side, currency);
-            let call = day.ledger.call(side, currency, requirement);
-            let line = CallLine {
-                side,
-                currency,
-                requirement,
-                call,
-            };
-            print!(rt; "{line}").map_err(|_| Stop::Unwritten)?;
-        }
+    for currency in Currency::ALL.into_iter().filter(|c| day.rates.quotes(*c)) {
+        let requirement = day.statements.requirement(side, currency);
+        let call = day.ledger.call(side, currency, requirement);
+        let line = CallLine {
+            side,
+            currency,
+            requirement,
+            call,
+        };
+        print!(rt; "{line}").map_err(|_| Stop::Unwritten)?;
     }
     Ok(())
 }

@@ -1,4 +1,3 @@
 pub mod Records
 pub mod Deposits
 pub mod Requirements
-pub mod Statements

@@ -1,12 +1,11 @@
 //! What each account owes at the close.
-ghost use Rattle.std.specs.Prelude.{◌≡◌, ℕ, ◌≤◌, [], length, replicate, slice_index};
+ghost use Rattle.std.specs.Prelude.{◌≡◌, ℕ, ◌<◌, ◌≤◌, [], ◌∷◌, ◌++◌, length, replicate, slice_index};
 ghost use Rattle.collateral.specs.declared.statements.TheConstants.{OWED_LIMIT};
 
 use arrayvec::ArrayVec;
 use std::marker::Model;
-use terms::faults::Fault;
 use terms::names::Name;
-use terms::words::{Layer, Refusal, Side};
+use terms::words::Side;
 
 /// The most cents that an account can owe in a currency.
 pub const OWED_LIMIT: u64 = 100_000_000_000;
@@ -49,9 +48,6 @@ impl Model for Statements {
 }
 
 impl Statements {
-    ghost use Rattle.collateral.specs.Statements.{push_fault, push_after};
-    ghost use Rattle.terms.specs.Faults.{refusal};
-
     /// No account yet.
     pub fn new() -> Statements
         ensures none { result ≡ [] }
@@ -61,14 +57,13 @@ impl Statements {
         }
     }
 
-    /// Adds the next account's statement, or refuses it where there are 32: a book has no more accounts.
-    pub fn push(&mut self, statement: Statement) -> Result<(), Fault>
-        ensures answer { refusal result ≡ push_fault self.old }
-        ensures after { self.new ≡ push_after (refusal result) self.old statement }
+    /// Adds the next account's statement; a book has no more than 32 accounts.
+    // It asks for room: an answer would have every caller tell of a 33rd account, which no book has.
+    pub fn push(&mut self, statement: Statement)
+        requires room { length self.old < 32 }
+        ensures after { self.new ≡ self.old ++ statement ∷ [] }
     {
-        self.rows
-            .try_push(statement)
-            .map_err(|_| Fault::new(Refusal::Full, Layer::Book))
+        self.rows.push(statement);
     }
 
     /// The statements, to be read.

@@ -1,1 +1,2 @@
 pub mod Clerks
+pub mod Reports

@@ -64,9 +64,7 @@ impl<D: Desk> Clerk<D> {
         ensures counts { IfOk result (λ reader. reader.line ≡ counted self.old.reader.line) }
     {
         let mut values = [0i64; 8];
-        let Some(rec) = read_line(line, &mut values) else {
-            return Err(Fault::new(Refusal::BadLine, Layer::Line));
-        };
+        let rec = read_line(line, &mut values).ok_or(Fault::new(Refusal::BadLine, Layer::Line))?;
         let mut reader = self.reader;
         reader.step(rec)?;
         self.desk.judge(self.reader.section, rec, &values)?;

@@ -1,20 +1,29 @@
 //! The close: what every account owes, in opening order.
-ghost use Rattle.std.specs.Prelude.{◌<◌, length};
+ghost use Rattle.std.specs.Prelude.{◌≡◌, ◌≤◌, IfOk, IfSome};
+ghost use Rattle.account.specs.Offset.{Law, Owable};
 ghost use Rattle.book.specs.View.{view};
+ghost use Rattle.desk.specs.Reports.{nth_report};
 
 use account::accounts::Account;
 use account::rule::{AccountReport, margin_account};
 use book::books::Book;
-use book::rows::AccountRow;
 use charge::charges::Charge;
 use collateral::statements::{Statement, Statements};
 use terms::faults::Fault;
 use terms::words::Leg;
 
-/// What one account of the book owes, by a charge.
-fn draw_one<C: Charge>(charge: &C, book: &Book, row: AccountRow) -> Result<Statement, Fault>
-    requires { row.slot < length (view book.now).accounts }
+/// The report of the account that was opened as the k-th, by a charge; none where fewer accounts are open.
+pub fn margin_nth<C: Charge>(
+    charge: &C,
+    book: &Book,
+    k: usize,
+) -> Option<Result<AccountReport, Fault>>
+    ensures answer { result ≡ nth_report (C.Charge.meaning charge.now) (view book.now) k }
+    ensures law { IfSome result (λ answer. IfOk answer (λ r. Law r.sums (view book.now).rates r.owed r.requirement)) }
+    ensures owed { IfSome result (λ answer. IfOk answer (λ r. Owable r.owed)) }
+    ensures bound { IfSome result (λ answer. IfOk answer (λ r. r.requirement ≤ 100000000000000000)) }
 {
+    let row = book.account(k)?;
     let account = Account {
         sheet: book.sheet(),
         name: row.name,
@@ -23,20 +32,22 @@ fn draw_one<C: Charge>(charge: &C, book: &Book, row: AccountRow) -> Result<State
         shorts: book.counts(row.slot, Leg::Short),
     };
     let mut report = AccountReport::default();
-    margin_account(charge, &account, &mut report)?;
-    Ok(Statement {
-        name: row.name,
-        side: row.side,
-        owed: report.owed,
-    })
+    let answer = margin_account(charge, &account, &mut report);
+    Some(answer.map(|_| report))
 }
 
 /// Draws up a statement for each account of the book, in opening order; the first account that cannot be margined refuses.
 pub fn draw_up<C: Charge>(charge: &C, book: &Book) -> Result<Statements, Fault> {
     let mut statements = Statements::new();
+    // Opening numbers are counted, as the rows stand in order of name.
     for k in 0..book.account_count() {
-        if let Some(row) = book.account(k) {
-            statements.push(draw_one(charge, book, row)?)?;
+        if let (Some(row), Some(answer)) = (book.account(k), margin_nth(charge, book, k)) {
+            let owed = answer?.owed;
+            statements.push(Statement {
+                name: row.name,
+                side: row.side,
+                owed,
+            });
         }
     }
     Ok(statements)

@@ -1,16 +1,12 @@
 //! An account of a book margined by a charge, each figure beside the one that is wanted.
-ghost use Rattle.std.specs.Prelude.{◌<◌, length};
-ghost use Rattle.book.specs.View.{view};
-
-use account::accounts::Account;
-use account::rule::{AccountReport, margin_account};
+use account::rule::AccountReport;
 use book::books::Book;
-use book::rows::AccountRow;
 use charge::charges::Charge;
+use desk::statements::margin_nth;
+use example::verdicts::verdict;
 use std::fmt::Display;
 use std::io;
-use terms::faults::Fault;
-use terms::words::{Currency, Leg};
+use terms::words::Currency;
 
 /// What an account on a sheet of two classes should come to: class figures in the order of the codes, sums and owed in HKD and in RMB.
 #[derive(Clone, Copy)]
@@ -31,32 +27,14 @@ pub fn show_margin<C: Charge>(
     k: usize,
     wanted: &Wanted,
 ) -> io::Result<()> {
-    let Some(row) = book.account(k) else {
-        return println!(rt; "{what}: no such account");
-    };
-    match margined(charge, book, row) {
-        Ok(report) => show_report(rt, what, &report, wanted),
-        Err(fault) => {
+    match margin_nth(charge, book, k) {
+        Some(Ok(report)) => show_report(rt, what, &report, wanted),
+        Some(Err(fault)) => {
             let number = fault.refusal.number();
             println!(rt; "{what}: refused {number}: DIFFERS")
         }
+        None => println!(rt; "{what}: no such account"),
     }
-}
-
-/// The report of one account of the book, by a charge.
-fn margined<C: Charge>(charge: &C, book: &Book, row: AccountRow) -> Result<AccountReport, Fault>
-    requires { row.slot < length (view book.now).accounts }
-{
-    let account = Account {
-        sheet: book.sheet(),
-        name: row.name,
-        basis: row.basis,
-        longs: book.counts(row.slot, Leg::Long),
-        shorts: book.counts(row.slot, Leg::Short),
-    };
-    let mut report = AccountReport::default();
-    margin_account(charge, &account, &mut report)?;
-    Ok(report)
 }
 
 /// Every figure of a report.
@@ -68,42 +46,31 @@ fn show_report(
 ) -> io::Result<()> {
     let hkd = Currency::Hkd.number();
     let rmb = Currency::Rmb.number();
-    compare(
-        rt,
-        what,
-        "first class",
-        report.class_figures[0],
-        wanted.figures[0],
-    )?;
-    compare(
-        rt,
-        what,
-        "second class",
-        report.class_figures[1],
-        wanted.figures[1],
-    )?;
-    compare(rt, what, "HKD sum", report.sums[hkd], wanted.sums[0])?;
-    compare(rt, what, "RMB sum", report.sums[rmb], wanted.sums[1])?;
-    compare(rt, what, "value", report.value, wanted.value)?;
-    compare(rt, what, "HKD owed", report.owed[hkd], wanted.owed[0])?;
-    compare(rt, what, "RMB owed", report.owed[rmb], wanted.owed[1])?;
-    compare(
-        rt,
-        what,
-        "requirement",
-        report.requirement,
-        wanted.requirement,
-    )
+    let figures = [
+        ("first class", report.class_figures[0], wanted.figures[0]),
+        ("second class", report.class_figures[1], wanted.figures[1]),
+        ("HKD sum", report.sums[hkd], wanted.sums[0]),
+        ("RMB sum", report.sums[rmb], wanted.sums[1]),
+        ("value", report.value, wanted.value),
+    ];
+    compare(rt, what, &figures)?;
+    let owing = [
+        ("HKD owed", report.owed[hkd], wanted.owed[0]),
+        ("RMB owed", report.owed[rmb], wanted.owed[1]),
+        ("requirement", report.requirement, wanted.requirement),
+    ];
+    compare(rt, what, &owing)
 }
 
-/// A figure beside the one that is wanted.
+/// Each figure beside the one that is wanted.
 fn compare<T: PartialEq + Display + Copy>(
     rt: &HostRuntime,
     what: &str,
-    figure: &str,
-    got: T,
-    wanted: T,
+    figures: &[(&str, T, T)],
 ) -> io::Result<()> {
-    let verdict = if got == wanted { "agrees" } else { "DIFFERS" };
-    println!(rt; "{what}, {figure}: {got}, wanted {wanted}: {verdict}")
+    for (figure, got, wanted) in figures {
+        let verdict = verdict(got, wanted);
+        println!(rt; "{what}, {figure}: {got}, wanted {wanted}: {verdict}")?;
+    }
+    Ok(())
 }

@@ -9,6 +9,7 @@ use charge::spread::Spread;
 use closing::memory::{CLASS, SERIES};
 use example::flat::FlatRate;
 use example::market::list_home;
+use example::verdicts::verdict;
 use sheet::classes::Class;
 use sheet::drafts::DraftSheet;
 use std::io;
@@ -36,7 +37,7 @@ fn main(rt: HostRuntime) -> io::Result<()> {
 fn show(rt: &HostRuntime, what: &str, answer: Result<i64, Fault>, wanted: i64) -> io::Result<()> {
     match answer {
         Ok(cents) => {
-            let verdict = if cents == wanted { "agrees" } else { "DIFFERS" };
+            let verdict = verdict(&cents, &wanted);
             println!(rt; "{what}: {cents} cents, wanted {wanted}: {verdict}")
         }
         Err(fault) => {
@@ -44,6 +45,14 @@ fn show(rt: &HostRuntime, what: &str, answer: Result<i64, Fault>, wanted: i64) -
             println!(rt; "{what}: refused {number}, wanted {wanted}: DIFFERS")
         }
     }
+}
+
+/// Prints each of some answers beside what it should be.
+fn show_all(rt: &HostRuntime, rows: &[(&str, Result<i64, Fault>, i64)]) -> io::Result<()> {
+    for (what, answer, wanted) in rows {
+        show(rt, what, *answer, *wanted)?;
+    }
+    Ok(())
 }
 
 /// Prints a charge's refusal: its number, and the number of the charge's label.
@@ -65,124 +74,80 @@ fn show_refusal(rt: &HostRuntime, what: &str, answer: Result<i64, Fault>) -> io:
 
 /// The client offset account: 30 calls and 30 puts short.
 fn show_offset(rt: &HostRuntime, class: &Class) -> io::Result<()> {
-    let position = [-30i64, -30];
-    show(
-        rt,
-        "client offset, scanning",
-        Scanning.amount(class, &position),
-        300_000,
-    )?;
-    show(
-        rt,
-        "client offset, spread",
-        Spread.amount(class, &position),
-        1_215_000,
-    )?;
-    show(
-        rt,
-        "client offset, minimum",
-        Minimum.amount(class, &position),
-        600_000,
-    )?;
-    show(
-        rt,
-        "client offset, PRiME",
-        prime().amount(class, &position),
-        1_515_000,
-    )
+    let offset = [-30i64, -30];
+    let scanning = Scanning.amount(class, &offset);
+    let spread = Spread.amount(class, &offset);
+    let minimum = Minimum.amount(class, &offset);
+    let prime = prime().amount(class, &offset);
+    let rows = [
+        ("client offset, scanning", scanning, 300_000),
+        ("client offset, spread", spread, 1_215_000),
+        ("client offset, minimum", minimum, 600_000),
+        ("client offset, PRiME", prime, 1_515_000),
+    ];
+    show_all(rt, &rows)
 }
 
 /// The house account: 5 calls and 40 puts short. Its worst cases series by series would be 90,000.00.
 fn show_house(rt: &HostRuntime, class: &Class) -> io::Result<()> {
-    let position = [-5i64, -40];
-    show(
-        rt,
-        "house, scanning",
-        Scanning.amount(class, &position),
-        6_950_000,
-    )?;
-    show(
-        rt,
-        "house, spread",
-        Spread.amount(class, &position),
-        202_500,
-    )?;
-    show(
-        rt,
-        "house, minimum",
-        Minimum.amount(class, &position),
-        800_000,
-    )?;
-    show(
-        rt,
-        "house, PRiME",
-        prime().amount(class, &position),
-        7_152_500,
-    )?;
+    let house = [-5i64, -40];
+    let scanning = Scanning.amount(class, &house);
+    let spread = Spread.amount(class, &house);
+    let minimum = Minimum.amount(class, &house);
+    let prime = prime().amount(class, &house);
     let calls = Scanning.amount(class, &[-5, 0]);
     let puts = Scanning.amount(class, &[0, -40]);
-    show(rt, "house, the calls alone", calls, 1_000_000)?;
-    show(rt, "house, the puts alone", puts, 8_000_000)
+    let rows = [
+        ("house, scanning", scanning, 6_950_000),
+        ("house, spread", spread, 202_500),
+        ("house, minimum", minimum, 800_000),
+        ("house, PRiME", prime, 7_152_500),
+        ("house, the calls alone", calls, 1_000_000),
+        ("house, the puts alone", puts, 8_000_000),
+    ];
+    show_all(rt, &rows)
 }
 
 /// A flat rate of a broker's, alone, in a sum of three parts and in a greater.
 fn show_brought_in(rt: &HostRuntime, class: &Class) -> io::Result<()> {
     let position = [-5i64, 40];
     let flat = FlatRate { cents: 150 };
-    show(rt, "flat rate", flat.amount(class, &position), 6_750)?;
-    show(
-        rt,
-        "flat rate, allowance",
-        flat.allowance(class, &position, &[5, -40]),
-        0,
-    )?;
-    show(
-        rt,
-        "scanning plus spread plus flat rate",
-        Sum(Sum(Scanning, Spread), flat).amount(class, &[-30, -30]),
-        1_524_000,
-    )?;
-    show(
-        rt,
-        "the greater of minimum and flat rate",
-        Greater(Minimum, flat).amount(class, &[0, 40]),
-        6_000,
-    )
+    let alone = flat.amount(class, &position);
+    let allowance = flat.allowance(class, &position, &[5, -40]);
+    let sum = Sum(Sum(Scanning, Spread), flat).amount(class, &[-30, -30]);
+    let greater = Greater(Minimum, flat).amount(class, &[0, 40]);
+    let rows = [
+        ("flat rate", alone, 6_750),
+        ("flat rate, allowance", allowance, 0),
+        ("scanning plus spread plus flat rate", sum, 1_524_000),
+        ("the greater of minimum and flat rate", greater, 6_000),
+    ];
+    show_all(rt, &rows)
 }
 
 /// Limits at both sides.
 fn show_limits(rt: &HostRuntime, class: &Class) -> io::Result<()> {
-    let most = FlatRate { cents: 31_250 };
-    let more = FlatRate { cents: 31_251 };
+    let most = FlatRate { cents: 31_250 }.amount(class, &[3_200_000, 0]);
+    let more = FlatRate { cents: 31_251 }.amount(class, &[3_200_000, 0]);
+    let long = Scanning.amount(class, &[3_200_001, 0]);
+    let short = Minimum.amount(class, &[0, -3_200_001]);
+    let three = prime().amount(class, &[0, 0, 0]);
+    let one = Spread.allowance(class, &[0, 0], &[0]);
     show(
         rt,
         "a count of 3,200,000, a figure of 10^11",
-        most.amount(class, &[3_200_000, 0]),
+        most,
         100_000_000_000,
     )?;
-    show_refusal(
-        rt,
-        "a figure beyond 10^11",
-        more.amount(class, &[3_200_000, 0]),
-    )?;
-    show_refusal(
-        rt,
-        "a count of 3,200,001",
-        Scanning.amount(class, &[3_200_001, 0]),
-    )?;
-    show_refusal(
-        rt,
-        "a count of -3,200,001",
-        Minimum.amount(class, &[0, -3_200_001]),
-    )?;
-    show_refusal(
-        rt,
-        "a position of three counts",
-        prime().amount(class, &[0, 0, 0]),
-    )?;
-    show_refusal(
-        rt,
-        "a second position of one count",
-        Spread.allowance(class, &[0, 0], &[0]),
-    )
+    let refusals = [
+        ("a figure beyond 10^11", more),
+        ("a count of 3,200,001", long),
+        ("a count of -3,200,001", short),
+        ("a position of three counts", three),
+        ("a second position of one count", one),
+    ];
+    for (what, answer) in refusals {
+        show_refusal(rt, what, answer)?;
+    }
+    Ok(())
 }
