@@ -84,7 +84,7 @@ fn at_rate(class: &Class, figure: u64) -> u64
     ensures value { result ≡ figure * unwrap_or class.now.spread_rate 0 }
 {
     match class.spread_rate {
-        Some(rate) => figure * rate as u64,
+        Some(rate) => figure * u64::from(rate),
         None => 0,
     }
 }

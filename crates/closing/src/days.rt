@@ -11,6 +11,7 @@ use desk::statements::draw_up;
 use lines::reader::{Reader, Section};
 use sheet::drafts::DraftSheet;
 use sheet::rates::Rates;
+use sheet::sheets::Sheet;
 use std::io::Read;
 use stream::lines::LineReader;
 use stream::reading::Stop;
@@ -30,9 +31,8 @@ pub fn margin_day<R: Read + Drop>(input: R) -> Result<Day, Stop> {
     let mut accounts = [ACCOUNT; 32];
     let mut counts = [0u32; 8192];
     let mut lines = LineReader::new(input);
-    let mut draft = DraftSheet::new(&mut classes, &mut series);
-    let reader = read_draft(&mut lines, &mut draft)?;
-    let sheet = draft.seal();
+    let draft = DraftSheet::new(&mut classes, &mut series);
+    let (sheet, reader) = read_sheet(&mut lines, draft)?;
     let mut ledger = Ledger::new(&sheet);
     let mut book = Book::new(sheet, &mut accounts, &mut counts);
     read_book(&mut lines, reader, &mut book, &mut ledger)?;
@@ -43,14 +43,18 @@ pub fn margin_day<R: Read + Drop>(input: R) -> Result<Day, Stop> {
     })
 }
 
-/// Reads the lines up to E onto a draft.
-fn read_draft<R: Read>(lines: &mut LineReader<R>, draft: &mut DraftSheet) -> Result<Reader, Stop> {
-    let mut clerk = Clerk::new(SheetDesk::new(draft), Reader::new());
+/// Reads the lines up to E onto a draft, and seals it: the sheet, and where the reader stands.
+fn read_sheet<'a, R: Read>(
+    lines: &mut LineReader<R>,
+    mut draft: DraftSheet<'a>,
+) -> Result<(Sheet<'a>, Reader), Stop> {
+    let mut clerk = Clerk::new(SheetDesk::new(&mut draft), Reader::new());
     while !matches!(clerk.reader.section, Section::Book) {
         let line = lines.next_line()?.ok_or(clerk.ended_early())?;
         clerk.take(line)?;
     }
-    Ok(clerk.reader)
+    let reader = clerk.reader;
+    Ok((draft.seal(), reader))
 }
 
 /// Reads the lines after E to the end of the input.

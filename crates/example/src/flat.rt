@@ -36,7 +36,7 @@ impl Charge for FlatRate {
 
     fn amount(&self, class: &Class, counts: &[i64]) -> Result<i64, Fault> {
         let position = Position::judged(class, counts, OWN)?;
-        limited(gross_of(&position) * self.cents as u64, OWN)
+        limited(gross_of(&position) * u64::from(self.cents), OWN)
     }
 
     fn allowance(&self, class: &Class, one: &[i64], other: &[i64]) -> Result<i64, Fault> {
