@@ -1,6 +1,6 @@
 use Rattle.std.proofs.Common.{◌-◌}
 use Rattle.desk.specs.declared.clerk.TheConstants.{LINE_LIMIT}
-use Rattle.closing.proofs.days.read_draft.Given as goal
+use Rattle.closing.proofs.days.read_sheet.Given as goal
 
 -- line 1,000,000 is never taken
 abbrev pub decreases-loop-clerk : goal.decreases-loop-clerk
