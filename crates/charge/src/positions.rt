@@ -33,7 +33,7 @@ pub fn fitting(class: &Class, counts: &[i64]) -> bool
 }
 
 impl<'a> Position<'a> {
-    /// The counts as a position of the class, refused with the label of the charge where they are none.
+    /// The counts as a position of the class; counts that are none are refused with the label of the charge.
     pub fn judged(
         class: &'a Class<'a>,
         counts: &'a [i64],
