@@ -37,7 +37,10 @@ impl Charge for Minimum {
         let position = Position::judged(class, counts, Label::Minimum)?;
         let calls = position.shorts(Kind::Call);
         let puts = position.shorts(Kind::Put);
-        limited(calls.max(puts) * u64::from(class.minimum_rate), Label::Minimum)
+        limited(
+            calls.max(puts) * u64::from(class.minimum_rate),
+            Label::Minimum,
+        )
     }
 
     fn allowance(&self, class: &Class, one: &[i64], other: &[i64]) -> Result<i64, Fault> {
