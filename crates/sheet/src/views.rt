@@ -72,7 +72,8 @@ impl<'a> Sheet<'a> {
         place_with(self.series, key)
     }
 
-    // The reads below are for our own crates, which count the classes first.
+    // The reads below ask for a place that is there: our own crates count the classes first. A place of a type of its own would have to be
+    // asked for by `Option`, and then each of them would tell of a class that is not there.
 
     /// The row of the class at a place; its currency is on the sheet.
     pub fn class_row(&self, i: usize) -> ClassRow
