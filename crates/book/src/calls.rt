@@ -59,6 +59,7 @@ impl<'s, 'a> Book<'s, 'a> {
             side,
             slot,
         };
+        // The name is not there, so what is refused is want of room.
         self.accounts
             .insert(row, MOST_ACCOUNTS)
             .map_err(|_| Fault::new(Refusal::Full, Layer::Book))?;
@@ -66,7 +67,7 @@ impl<'s, 'a> Book<'s, 'a> {
         Ok(())
     }
 
-    // Name, key and contracts stay three parameters: a struct of them would be judged at once, and what is within its limits is one `Dealing`.
+    // Name, key and contracts stay three parameters, as a line gives them: a struct would be taken apart at once by `within_limits`, which makes the `Dealing`.
 
     /// Adds contracts to one count; refused 3 (a limit), 5 (account or series absent), 8 (above 100,000).
     pub fn post(

@@ -122,7 +122,8 @@ impl Book<'_, '_> {
         Ok(Pair { from, to })
     }
 
-    // The three below take a spot on an account of this book: no spot knows how many accounts there are.
+    // The three below take a spot on an account of this book. No spot knows how many accounts there are, so what finds one says that its
+    // account is open, and what uses it asks that.
 
     /// The count of a leg at a spot.
     pub(crate) fn count_at(&self, spot: &Spot, leg: Leg) -> u32

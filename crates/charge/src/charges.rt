@@ -7,6 +7,7 @@ ghost use Rattle.sheet.specs.Plain.{plain};
 use sheet::classes::Class;
 use terms::faults::Fault;
 
+// Class and counts and no `Position`: a charge from elsewhere is asked with counts that may fit no class, and refuses them by its own label.
 pub trait Charge {
     /// What the charge comes to for every class and position.
     ghost meaning: { Self → Meaning };

@@ -15,7 +15,8 @@ use sheet::classes::Class;
 use terms::faults::Fault;
 use terms::words::Label;
 
-// The bodies of the sum and the greater differ by `+`, `max` and the label alone: one function for both, over two answers and a closure, is longer than they are.
+// Two structs, by a rule of the project: a charge's type says how it is made. Their bodies differ by `+`, `max` and the label alone: one function for both, over two answers and a
+// closure, is longer than they are. A figure is never negative, so `as u64` loses nothing.
 
 /// The sum of two charges.
 #[derive(Clone, Copy)]

@@ -1,4 +1,4 @@
-//! What holds of the charges, for every class and position.
+//! What holds of the charges, for every class and position: functions that do nothing, so that a contract states each law.
 ghost use Rattle.charge.specs.Laws.{ScanningLaw, SpreadLaw, GreaterLaw};
 
 /// Scanning charges the largest of the sixteen losses, and never less than 0.

@@ -68,5 +68,5 @@ pub fn limited(figure: u64, label: Label) -> Result<i64, Fault>
     if figure > FIGURE_LIMIT {
         return Err(Fault::new(Refusal::TooLarge, Layer::Charge).with_label(label));
     }
-    Ok(figure as i64)
+    Ok(figure as i64) // at most 10^11, so nothing is lost
 }

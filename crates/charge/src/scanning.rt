@@ -17,7 +17,7 @@ impl Position<'_> {
         ensures value { result ≡ loss k self.now.class.now.series.now self.now.counts.now }
     {
         let mut sum = 0;
-        // By index, as asked for: over the series, reading the matching counts.
+        // By index over the series, reading the matching counts: a form that is kept here by a rule of the project.
         for i in 0..self.class.series.len() {
             sum += self.counts[i] * self.class.series[i].array[k];
         }

@@ -83,6 +83,7 @@ fn at_rate(class: &Class, figure: u64) -> u64
     requires { figure ≤ 5242880000000 }
     ensures value { result ≡ figure * unwrap_or class.now.spread_rate 0 }
 {
+    // A match, by a rule of the project: what no published rate means stands beside what a rate means.
     match class.spread_rate {
         Some(rate) => figure * u64::from(rate),
         None => 0,

@@ -1,6 +1,8 @@
 //! A day: the sheet's lines, the book's lines, the close.
 use crate::memory::{ACCOUNT, CLASS, SERIES};
 use book::books::Book;
+use book::calls::MOST_ACCOUNTS;
+use book::counts::STRIDE;
 use charge::composites::prime;
 use collateral::ledger::Ledger;
 use collateral::statements::Statements;
@@ -10,6 +12,7 @@ use desk::sheet_desk::SheetDesk;
 use desk::statements::draw_up;
 use lines::reader::{Reader, Section};
 use sheet::drafts::DraftSheet;
+use sheet::limits::{MOST_CLASSES, MOST_SERIES};
 use sheet::rates::Rates;
 use sheet::sheets::Sheet;
 use std::io::Read;
@@ -26,10 +29,10 @@ pub struct Day {
 
 /// Reads an input to its end and margins its book by PRiME's charge.
 pub fn margin_day<R: Read + Drop>(input: R) -> Result<Day, Stop> {
-    let mut classes = [CLASS; 16];
-    let mut series = [SERIES; 128];
-    let mut accounts = [ACCOUNT; 32];
-    let mut counts = [0u32; 8192];
+    let mut classes = [CLASS; MOST_CLASSES];
+    let mut series = [SERIES; MOST_SERIES];
+    let mut accounts = [ACCOUNT; MOST_ACCOUNTS];
+    let mut counts = [0u32; MOST_ACCOUNTS * STRIDE];
     let mut lines = LineReader::new(input);
     let draft = DraftSheet::new(&mut classes, &mut series);
     let (sheet, reader) = read_sheet(&mut lines, draft)?;
@@ -49,8 +52,8 @@ fn read_sheet<'a, R: Read>(
     mut draft: DraftSheet<'a>,
 ) -> Result<(Sheet<'a>, Reader), Stop> {
     let mut clerk = Clerk::new(SheetDesk::new(&mut draft), Reader::new());
-    while !matches!(clerk.reader.section, Section::Book) {
-        let line = lines.next_line()?.ok_or(clerk.ended_early())?;
+    while clerk.reader.section != Section::Book {
+        let line = lines.next_line()?.ok_or_else(|| clerk.ended_early())?;
         clerk.take(line)?;
     }
     let reader = clerk.reader;

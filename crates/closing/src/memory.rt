@@ -1,5 +1,5 @@
 //! What fills the memory that a sheet and a book are lent; nothing reads it before it is written.
-// Constants in place of `Default`: three zero bytes are no code and month 0 is no month, so nothing but this filling should come by such a row.
+// Constants: a `Default` would offer a row without code or month wherever a row is wanted.
 use book::rows::AccountRow;
 use sheet::rows::{ClassRow, Series};
 use terms::codes::Code;

@@ -2,9 +2,15 @@
 use crate::days::Day;
 use lines::reader::LAST_LINE;
 use lines::report::{CallLine, FaultLine, OwedLine};
+use std::fmt::Display;
 use stream::reading::Stop;
 use terms::faults::Fault;
 use terms::words::{Currency, Side};
+
+/// One line of the report.
+fn print_line<L: Display + Drop>(rt: &HostRuntime, line: L) -> Result<(), Stop> {
+    print!(rt; "{line}").map_err(|_| Stop::Unwritten)
+}
 
 /// What each account owes, in opening order and currency order.
 fn print_owed(rt: &HostRuntime, day: &Day) -> Result<(), Stop> {
@@ -15,7 +21,7 @@ fn print_owed(rt: &HostRuntime, day: &Day) -> Result<(), Stop> {
                 currency,
                 owed: statement.owed[currency.number()],
             };
-            print!(rt; "{line}").map_err(|_| Stop::Unwritten)?;
+            print_line(rt, line)?;
         }
     }
     Ok(())
@@ -32,7 +38,7 @@ fn print_calls(rt: &HostRuntime, day: &Day, side: Side) -> Result<(), Stop> {
             requirement,
             call,
         };
-        print!(rt; "{line}").map_err(|_| Stop::Unwritten)?;
+        print_line(rt, line)?;
     }
     Ok(())
 }

@@ -35,6 +35,7 @@ impl Ledger {
         ensures after { self.new.records ≡ deposit_after (refusal result) self.old.records side currency cents }
         ensures kept { self.new.rates ≡ self.old.rates }
     {
+        // Beyond what `within` of terms takes.
         if !(1..=DEPOSIT_LIMIT).contains(&cents) {
             return Err(OutsideLimits.into());
         }

@@ -19,7 +19,7 @@ pub struct Statement {
     ghost modest: { (k : ℕ) → slice_index owed k ≤ OWED_LIMIT },
 }
 
-/// What a place holds where no account has a statement yet.
+/// What a place of the list holds where no account has a statement yet.
 impl Default for Statement {
     ghost is_default = { λ s. s.owed ≡ replicate 5 0 };
 

@@ -1,4 +1,4 @@
-//! How long the lines of a report are: those of a kind are all of one length.
+//! How long the lines of a report are, those of a kind all alike: functions that do nothing, so that a contract states each length.
 ghost use Rattle.std.specs.Prelude.{◌≡◌, length};
 ghost use Rattle.lines.specs.Report.{call_line, fault_line, owed_line};
 

@@ -24,6 +24,7 @@ pub trait Keyed: Copy {
 }
 
 /// The first `len` of the lent rows are the register's, in order of their keys; the memory past them is the lender's.
+// A length beside lent rows: no heap is taken.
 #[derive(Drop)]
 pub struct Register<'a, R: Keyed> {
     rows: &'a mut [R],

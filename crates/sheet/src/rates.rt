@@ -4,7 +4,8 @@ ghost use Rattle.std.specs.Prelude.{◌≡◌, ℕ, ◌≤◌, slice_index};
 use terms::words::Currency;
 
 /// A rate for each currency that is on the sheet: HKD's own is 10,000, and none is above 200,000.
-// 0 stands for a currency that is not there, in here alone: an account's figures are multiplied by all five.
+// 0 stands for a currency that is not there: what an account owes is worked out over all five, so an option would become this 0 at once
+// in `factors`. `quotes` tells it apart, and the offset, which divides by a rate only where there is one.
 #[derive(Clone, Copy)]
 pub struct Rates {
     by_number: [u32; 5],

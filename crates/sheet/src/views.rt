@@ -53,7 +53,7 @@ impl<'a> Sheet<'a> {
     pub fn class_rows(&self) -> &'a [ClassRow]
         ensures value { result.now ≡ self.now.classes.now }
     {
-        self.classes // in the order of `class_row`
+        self.classes // all of them
     }
 
     /// The place of the class that has the code.

@@ -10,6 +10,7 @@ use std::fmt;
 use std::fmt::{Display, Write};
 use std::str::from_utf8;
 
+// Three fields, as a line's pattern and the rule books name them; an array would say its length again wherever one is read.
 #[derive(Clone, Copy, PartialEq, Eq, PartialOrd, Ord, Debug)]
 pub struct Code {
     pub first: u8,

@@ -47,7 +47,7 @@ impl Fault {
         }
     }
 
-    // One for each part and no generic one: the part's name stands where it is filled, and a closure over the place says no less.
+    // One for each part: one method taking a closure would have every caller write `|place| Place { class: Some(class), ..place }`.
 
     pub fn with_line(self, line: u32) -> Fault
         ensures value { result ≡ with_line line self }

@@ -28,9 +28,9 @@ impl Lettered for Side {
     }
 
     fn of_letter(byte: u8) -> Option<Side> {
-        match byte as char {
-            'C' => Some(Side::Client),
-            'H' => Some(Side::House),
+        match byte {
+            b'C' => Some(Side::Client),
+            b'H' => Some(Side::House),
             _ => None,
         }
     }
@@ -47,9 +47,9 @@ impl Lettered for Basis {
     }
 
     fn of_letter(byte: u8) -> Option<Basis> {
-        match byte as char {
-            'G' => Some(Basis::Gross),
-            'N' => Some(Basis::Net),
+        match byte {
+            b'G' => Some(Basis::Gross),
+            b'N' => Some(Basis::Net),
             _ => None,
         }
     }
@@ -66,9 +66,9 @@ impl Lettered for Leg {
     }
 
     fn of_letter(byte: u8) -> Option<Leg> {
-        match byte as char {
-            'L' => Some(Leg::Long),
-            'S' => Some(Leg::Short),
+        match byte {
+            b'L' => Some(Leg::Long),
+            b'S' => Some(Leg::Short),
             _ => None,
         }
     }
@@ -85,9 +85,9 @@ impl Lettered for Kind {
     }
 
     fn of_letter(byte: u8) -> Option<Kind> {
-        match byte as char {
-            'C' => Some(Kind::Call),
-            'P' => Some(Kind::Put),
+        match byte {
+            b'C' => Some(Kind::Call),
+            b'P' => Some(Kind::Put),
             _ => None,
         }
     }

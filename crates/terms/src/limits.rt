@@ -21,7 +21,7 @@ pub fn within(number: i64, lowest: u32, highest: u32) -> Result<u32, OutsideLimi
     ensures value { Gives (within number lowest highest) result }
 {
     match u32::try_from(number) {
-        Ok(number) if lowest <= number && number <= highest => Ok(number),
+        Ok(number) if (lowest..=highest).contains(&number) => Ok(number),
         _ => Err(OutsideLimits),
     }
 }
