@@ -66,6 +66,7 @@ impl<A: Charge, B: Charge> Charge for Greater<A, B> {
 pub type Prime = Greater<Sum<Scanning, Spread>, Minimum>;
 
 pub fn prime() -> Prime
+    ensures meaning { ⟦<Prime as Charge>⟧.meaning result ≡ prime_meaning }
     ensures law { Lawful prime_meaning }
 {
     Greater(Sum(Scanning, Spread), Minimum)

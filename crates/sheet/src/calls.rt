@@ -40,6 +40,8 @@ impl<'a> DraftSheet<'a> {
         Ok(())
     }
 
+    // Four parts and no struct of them: a class is told to this call alone, where a series is told to two.
+
     /// Puts a class in; refused: beyond its limits (3), its code there (4), its currency not on the sheet (5), no room (6).
     pub fn add_class(
         &mut self,

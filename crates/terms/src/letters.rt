@@ -6,6 +6,7 @@ use crate::words::{Basis, Kind, Leg, Side};
 
 /// A closed list whose members are each written by a letter of their own. What reads or writes any of them names the letter as a
 /// ghost member, so this is a trait of its own and no pair of conversions.
+// Each letter stands in both directions: one search through a list of all words would want a law that their letters differ.
 pub trait Lettered: Copy {
     ghost letter: { Self → ℕ };
 
