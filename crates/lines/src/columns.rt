@@ -19,53 +19,70 @@ pub fn ended(s: &[u8]) -> Option<()>
     (s == b"\n".as_slice()).then_some(())
 }
 
-/// How many blanks a field begins with.
-fn blanks(field: &[u8]) -> usize
-    ensures value { result ≡ prefix_len (λ b. b == 32) field.now }
-    ensures bound { result ≤ length field.now }
-{
-    field.iter().take_while(|b| **b == b' ').count()
+/// The bytes that a number may stand in: so few that what their digits say is below 10^13 and overflows nothing.
+#[derive(Clone, Copy)]
+struct Field<'a> {
+    bytes: &'a [u8],
+    ghost narrow: { length bytes.now ≤ 13 },
 }
 
-/// The number whose decimal digits a text is.
-fn digits(text: &[u8]) -> Option<u64>
-    requires { length text.now ≤ 13 }
-    ensures { MatchOption result ((n : ℕ) → n < 2 ^ 64 → text.now ≢ decimal n) (λ n. (text.now ≡ decimal n) × (n < 10 ^ 13)) }
-{
-    if let [] | [b'0', _, ..] = text {
-        return None;
+impl Field<'_> {
+    /// How many blanks it begins with.
+    fn blanks(self) -> usize
+        ensures value { result ≡ prefix_len (λ b. b == 32) self.entry.bytes.now }
+        ensures bound { result ≤ length self.entry.bytes.now }
+    {
+        self.bytes.iter().take_while(|b| **b == b' ').count()
     }
-    // `str::from_utf8(text)` and `parse` would read plainer, but a file of a million lines takes a tenth longer by them.
-    let mut n = 0;
-    for c in text {
-        if !c.is_ascii_digit() {
+
+    /// The number whose decimal digits it is.
+    fn digits(self) -> Option<u64>
+        ensures { MatchOption result ((n : ℕ) → n < 2 ^ 64 → self.entry.bytes.now ≢ decimal n) (λ n. (self.entry.bytes.now ≡ decimal n) × (n < 10 ^ 13)) }
+    {
+        if let [] | [b'0', _, ..] = self.bytes {
             return None;
         }
-        n = n * 10 + u64::from(*c - b'0');
+        // `str::from_utf8` and `parse` would read plainer, but a file of a million lines takes a seventh longer by them.
+        let mut n = 0;
+        for c in self.bytes {
+            if !c.is_ascii_digit() {
+                return None;
+            }
+            n = n * 10 + u64::from(*c - b'0');
+        }
+        Some(n)
     }
-    Some(n)
-}
 
-/// The number that a text writes, a minus before it where it is below zero.
-fn signed_text(text: &[u8]) -> Option<i64>
-    requires { length text.now ≤ 13 }
-    ensures { Exactly signed_decimal Within text.now result }
-{
-    match text {
-        [b'-', rest @ ..] => match digits(rest)? {
-            0 => None,
-            n => Some(-(n as i64)),
-        },
-        _ => Some(digits(text)? as i64),
+    /// The number that it writes, a minus before it where it is below zero.
+    fn signed(self) -> Option<i64>
+        ensures { Exactly signed_decimal Within self.entry.bytes.now result }
+    {
+        match self.bytes {
+            [b'-', bytes @ ..] => match (Field { bytes }).digits()? {
+                0 => None,
+                n => Some(-(n as i64)),
+            },
+            _ => Some(self.digits()? as i64),
+        }
     }
-}
 
-/// The number that stands at the right of a field.
-fn number(field: &[u8]) -> Option<i64>
-    requires { length field.now ≤ 13 }
-    ensures { Exactly (column (length field.now)) (Fits (length field.now)) field.now result }
-{
-    signed_text(&field[blanks(field)..])
+    /// The number that stands at its right.
+    fn number(self) -> Option<i64>
+        ensures { Exactly (column (length self.entry.bytes.now)) (Fits (length self.entry.bytes.now)) self.entry.bytes.now result }
+    {
+        let bytes = &self.bytes[self.blanks()..];
+        Field { bytes }.signed()
+    }
+
+    /// The number at its right, or none where it is all blank.
+    fn number_or_blank(self) -> Option<Option<i64>>
+        ensures { Exactly (column_or_blank (length self.entry.bytes.now)) (FitsOrBlank (length self.entry.bytes.now)) self.entry.bytes.now result }
+    {
+        if self.blanks() == self.bytes.len() {
+            return Some(None);
+        }
+        self.number().map(Some)
+    }
 }
 
 /// A blank and a number at the right of a width, and what follows.
@@ -74,19 +91,8 @@ pub fn number_at(s: &[u8], width: usize) -> Option<(i64, &[u8])>
     requires { width ≤ 13 }
     ensures { Cut (number_field width) s.now result }
 {
-    let (field, rest) = field_at(s, width)?;
-    Some((number(field)?, rest))
-}
-
-/// The number at the right of a field, or none where the field is all blank.
-fn number_or_blank(field: &[u8]) -> Option<Option<i64>>
-    requires { length field.now ≤ 13 }
-    ensures { Exactly (column_or_blank (length field.now)) (FitsOrBlank (length field.now)) field.now result }
-{
-    if blanks(field) == field.len() {
-        return Some(None);
-    }
-    number(field).map(Some)
+    let (bytes, rest) = field_at(s, width)?;
+    Some((Field { bytes }.number()?, rest))
 }
 
 /// A blank and a width that holds a number or is all blank, and what follows.
@@ -94,6 +100,6 @@ pub fn number_or_blank_at(s: &[u8], width: usize) -> Option<(Option<i64>, &[u8])
     requires { width ≤ 13 }
     ensures { Cut (number_or_blank_field width) s.now result }
 {
-    let (field, rest) = field_at(s, width)?;
-    Some((number_or_blank(field)?, rest))
+    let (bytes, rest) = field_at(s, width)?;
+    Some((Field { bytes }.number_or_blank()?, rest))
 }

@@ -1,6 +1,0 @@
-use Rattle.std.proofs.Common.{◌≡◌, take}
-use Rattle.std.specs.Str.Parse.{AllDigits, digits_value}
-use Rattle.lines.proofs.columns.digits.Given as goal
-
-abbrev pub invariant-loop-c : goal.invariant-loop-c
-invariant-loop-c l = record { figures : AllDigits 10 (take l.c-index l.text); value : l.n ≡ digits_value 10 (take l.c-index l.text) }
