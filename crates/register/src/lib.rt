@@ -116,9 +116,10 @@ pub fn place_with<R: Keyed>(rows: &[R], key: &R::Key) -> Option<usize>
 
 /// How many rows stand before the key.
 fn place_of<R: Keyed>(rows: &[R], key: &R::Key) -> usize
+    requires { Ascending R.rank rows.now }
     ensures value { result ≡ place R.rank (R.wanted key.now) rows.now }
 {
-    rows.iter().take_while(|row| row.key() < *key).count()
+    rows.partition_point(|row| row.key() < *key)
 }
 
 /// Moves each row from `at` to `len` up by one, and writes the new one there.
