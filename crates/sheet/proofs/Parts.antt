@@ -1,19 +1,21 @@
 -- The series of a class stand together, since rows are in order of class first.
-use Rattle.std.proofs.Common.{◌≡◌, ℕ, suc, ◌+◌, ◌-◌, ◌≤◌, cond, not, List, [], ◌∷◌, length, take, drop, pos, filter, Ordering, Less, Equal, Greater, sym, refl, ap, ◌∙◌, subst, one-add, arith}
+use Rattle.std.proofs.Common.{◌≡◌, ℕ, suc, ◌+◌, ◌-◌, ◌≤◌, ◌<◌, true, false, cond, not, List, [], ◌∷◌, length, get_or, take, drop, pos, filter, Ordering, Less, Equal, Greater, sym, refl, ap, ◌∙◌, subst, one-add, arith}
 use Rattle.std.specs.Cmp.{nat_cmp_total}
 use Rattle.std.specs.Ordering.{is_lt, is_eq, is_gt, ordering_then, ordering_reverse, nat_cmp}
-use Rattle.std.specs.List.Sorted.{IsStrictlySortedBy}
+use Rattle.std.specs.List.Sorted.{IsStrictlySortedBy, IsPartitionedBy, IsPartitionPoint}
 use Rattle.std.specs.List.{prefix_len, AllByRecursion as All}
 use Rattle.std.proofs.ByRecursion.{All-weaker}
 use Rattle.std.proofs.lemmas.Bool.{true≢false}
+use Rattle.std.proofs.lemmas.Map.Keys.{Less-from_sorted}
 use Rattle.terms.specs.Order.{order}
 use Rattle.terms.specs.Codes.{lettered}
 use Rattle.terms.specs.Words.{kind_number}
 use Rattle.terms.specs.declared.codes.Code.{Code}
 use Rattle.terms.specs.declared.words.Kind.TheVariants.{Call}
 use Rattle.register.specs.Rows.{Ascending}
+use Rattle.register.proofs.Halves.{front_counted}
 use Rattle.sheet.specs.declared.rows.Series.{Series}
-use Rattle.sheet.specs.Rows.{series_rank, series_class, of_class, before_class, through_class, through, beside, Spanned}
+use Rattle.sheet.specs.Rows.{series_rank, series_class, of_class, before, before_class, through_class, through, beside, Spanned}
 use Rattle.std.proofs.lemmas.List.Sums.{prefix_len-le-length}
 use Rattle.std.specs.Cmp.Lexicographic.{lists_total}
 
@@ -154,6 +156,36 @@ beside_is : {X : Type 0} (c : Code) (rows : List Series) (ns : List X) → mids_
 beside_is c [] ns = refl
 beside_is c (s ∷ rows) [] = refl
 beside_is c (s ∷ rows) (n ∷ ns) = ap (λ l. cond (is_eq (order (series_class s) (lettered c))) (n ∷ l) l) (beside_is c rows ns)
+
+-- ---- a search by halves ends at those places
+low_before : (p q : Ordering) → Rises p q → is_lt q ≡ true → is_lt p ≡ true
+low_before Less q h e = refl
+low_before Equal Less h e = absurd h
+low_before Equal Equal h e = e
+low_before Equal Greater h e = e
+low_before Greater Less h e = absurd h
+low_before Greater Equal h e = absurd h
+low_before Greater Greater h e = e
+
+not_high_before : (p q : Ordering) → Rises p q → not (is_gt q) ≡ true → not (is_gt p) ≡ true
+not_high_before Less q h e = refl
+not_high_before Equal q h e = refl
+not_high_before Greater Less h e = absurd h
+not_high_before Greater Equal h e = absurd h
+not_high_before Greater Greater h e = e
+
+module _ (c : Code) (rows : List Series) (up : Ascending series_rank rows) where
+  rises_at : (a b : ℕ) (d : Series) → a < b → b < length rows → Rises (order (series_class (get_or rows a d)) (lettered c)) (order (series_class (get_or rows b d)) (lettered c))
+  rises_at a b d lt within =
+      let x = get_or rows a d in
+      let y = get_or rows b d in
+      rises (series_class x) (series_class y) (lettered c) _ _ refl refl (class_first x y (Less-from_sorted (λ r s. order (series_rank r) (series_rank s)) rows a b d up lt within))
+
+  pub first_counted : (i : ℕ) → i ≤ length rows → (IsPartitionedBy (before c) rows → IsPartitionPoint (λ s. before c s ≡ true) (λ s. before c s ≡ false) rows i) → i ≡ before_class c rows
+  first_counted i le turn = front_counted (before c) rows i le turn (λ a b d lt within e. low_before _ _ (rises_at a b d lt within) e)
+
+  pub last_counted : (i : ℕ) → i ≤ length rows → (IsPartitionedBy (through c) rows → IsPartitionPoint (λ s. through c s ≡ true) (λ s. through c s ≡ false) rows i) → i ≡ through_class c rows
+  last_counted i le turn = front_counted (through c) rows i le turn (λ a b d lt within e. not_high_before _ _ (rises_at a b d lt within) e)
 
 pub spanned : (c : Code) (rows : List Series) → Ascending series_rank rows → Spanned c rows (before_class c rows) (through_class c rows)
 spanned c rows up = record {
