@@ -70,7 +70,7 @@ impl<'a, R: Keyed> Register<'a, R> {
         ensures answer { result ≡ sought R.rank (R.wanted key.now) (held self.now) }
         ensures means { Found R.rank (R.wanted key.now) (held self.now) result }
     {
-        place_with(self.as_slice(), key)
+        place_in_order(self.as_slice(), key)
     }
 
     /// Whether one more row may be put in: fewer than the limit stand there, and the lent memory has room.
@@ -107,11 +107,12 @@ impl<'a, R: Keyed> Register<'a, R> {
     }
 }
 
-/// The place of the first row that has the key.
-pub fn place_with<R: Keyed>(rows: &[R], key: &R::Key) -> Option<usize>
+/// The place of the row that has the key, in rows that are in order: a slice cannot carry this, so it is for our own crates alone.
+pub fn place_in_order<R: Keyed>(rows: &[R], key: &R::Key) -> Option<usize>
+    requires { Ascending R.rank rows.now }
     ensures value { result ≡ sought R.rank (R.wanted key.now) rows.now }
 {
-    rows.iter().position(|row| row.key() == *key)
+    rows.binary_search_by(|row| row.key().cmp(key)).ok()
 }
 
 /// How many rows stand before the key.

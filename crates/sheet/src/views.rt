@@ -14,7 +14,7 @@ use crate::ranges::{part, span_of};
 use crate::rates::Rates;
 use crate::rows::ClassRow;
 use crate::sheets::Sheet;
-use register::place_with;
+use register::place_in_order;
 use std::ops::Range;
 use terms::codes::Code;
 use terms::keys::SeriesKey;
@@ -61,7 +61,7 @@ impl<'a> Sheet<'a> {
         ensures value { result ≡ sought class_rank (lettered code.now) self.now.classes.now }
         ensures bound { (i : ℕ) → result ≡ Some i → i < length self.now.classes.now }
     {
-        place_with(self.classes, code)
+        place_in_order(self.classes, code)
     }
 
     /// The place of the series that has the key.
@@ -69,7 +69,7 @@ impl<'a> Sheet<'a> {
         ensures value { result ≡ sought series_rank (figured key.now) self.now.series.now }
         ensures bound { (i : ℕ) → result ≡ Some i → i < length self.now.series.now }
     {
-        place_with(self.series, key)
+        place_in_order(self.series, key)
     }
 
     // The reads below ask for a place that is there: our own crates count the classes first. A place of a type of its own would have to be
