@@ -21,12 +21,7 @@ impl<'b, 's, 'a> BookDesk<'b, 's, 'a> {
 }
 
 impl<'b, 's, 'a> Desk for BookDesk<'b, 's, 'a> {
-    fn judge(
-        &mut self,
-        _section: Section,
-        rec: Record<'_>,
-        _values: &[i64; 8],
-    ) -> Result<(), Fault> {
+    fn judge(&mut self, _section: Section, rec: Record<'_>) -> Result<(), Fault> {
         match rec {
             Record::Account { name, basis, side } => self.book.open(name, basis, side),
             Record::Post {
@@ -55,6 +50,7 @@ impl<'b, 's, 'a> Desk for BookDesk<'b, 's, 'a> {
                 let currency = Currency::try_from(currency)?;
                 self.ledger.deposit(side, currency, cents)
             }
+            // E, and what `step` has refused already.
             _ => Ok(()),
         }
     }

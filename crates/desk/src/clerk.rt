@@ -18,8 +18,8 @@ pub const LINE_LIMIT: u32 = 1_000_000;
 
 /// What takes the records of one part of the input to their calls.
 pub trait Desk {
-    /// Takes a record that is due in a section to the call that it stands for. The values are those of an R record.
-    fn judge(&mut self, section: Section, rec: Record<'_>, values: &[i64; 8]) -> Result<(), Fault>;
+    /// Takes a record that is due in a section to the call that it stands for.
+    fn judge(&mut self, section: Section, rec: Record<'_>) -> Result<(), Fault>;
 }
 
 /// Reads lines and takes their records to a desk.
@@ -63,11 +63,10 @@ impl<D: Desk> Clerk<D> {
         ensures stays { self.new.reader ≡ self.old.reader }
         ensures counts { IfOk result (λ reader. reader.line ≡ counted self.old.reader.line) }
     {
-        let mut values = [0i64; 8];
-        let rec = read_line(line, &mut values).ok_or(Fault::new(Refusal::BadLine, Layer::Line))?;
+        let rec = read_line(line).ok_or(Fault::new(Refusal::BadLine, Layer::Line))?;
         let mut reader = self.reader;
         reader.step(rec)?;
-        self.desk.judge(self.reader.section, rec, &values)?;
+        self.desk.judge(self.reader.section, rec)?;
         Ok(reader)
     }
 }

@@ -52,7 +52,7 @@ impl<'b, 'a> SheetDesk<'b, 'a> {
 }
 
 impl<'b, 'a> Desk for SheetDesk<'b, 'a> {
-    fn judge(&mut self, section: Section, rec: Record<'_>, values: &[i64; 8]) -> Result<(), Fault> {
+    fn judge(&mut self, section: Section, rec: Record<'_>) -> Result<(), Fault> {
         match rec {
             Record::Class {
                 code,
@@ -78,7 +78,8 @@ impl<'b, 'a> Desk for SheetDesk<'b, 'a> {
                 shares,
                 delta,
             }),
-            Record::Array => self.add_values(section, values),
+            Record::Array { values } => self.add_values(section, &values),
+            // E, and what `step` has refused already.
             _ => Ok(()),
         }
     }

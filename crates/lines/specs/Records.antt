@@ -93,32 +93,19 @@ Sound (deposit s c z) = Coded c × Fits 13 z
 abbrev pub Of : ℕ → Entry → Type 0
 Of l e = Sound e × (letter e ≡ l)
 
--- what a record of the program says, with the values beside it
-abbrev pub meant : List ℤ → Record → Entry
-meant vs (Class c k s m) = class c k s m
-meant vs (Series k p n d) = series k p n d
-meant vs Array = array vs
-meant vs (Rate c r) = rate c r
-meant vs End = end
-meant vs (Account t b s) = account t.now b s
-meant vs (Post t k l n) = post t.now k l n
-meant vs (CloseOut t k n) = close_out t.now k n
-meant vs (Move t u k l n) = move t.now u.now k l n
-meant vs (Deposit s c z) = deposit s c z
-
--- the values beside a record change at an array only
-abbrev pub Kept : List ℤ → List ℤ → Record → Type 0
-Kept vs ws (Class c k s m) = ws ≡ vs
-Kept vs ws (Series k p n d) = ws ≡ vs
-Kept vs ws Array = Unit {0}
-Kept vs ws (Rate c r) = ws ≡ vs
-Kept vs ws End = ws ≡ vs
-Kept vs ws (Account t b s) = ws ≡ vs
-Kept vs ws (Post t k l n) = ws ≡ vs
-Kept vs ws (CloseOut t k n) = ws ≡ vs
-Kept vs ws (Move t u k l n) = ws ≡ vs
-Kept vs ws (Deposit s c z) = ws ≡ vs
+-- what a record of the program says
+abbrev pub meant : Record → Entry
+meant (Class c k s m) = class c k s m
+meant (Series k p n d) = series k p n d
+meant (Array zs) = array zs
+meant (Rate c r) = rate c r
+meant End = end
+meant (Account t b s) = account t.now b s
+meant (Post t k l n) = post t.now k l n
+meant (CloseOut t k n) = close_out t.now k n
+meant (Move t u k l n) = move t.now u.now k l n
+meant (Deposit s c z) = deposit s c z
 
 -- r is what a line of a letter says whose fields are s, or nothing where s is not the fields of such a line
 abbrev pub Says : ℕ → List ℕ → Option Record → Type 0
-Says l s r = MatchOption r (Isnt body (Of l) s) (λ x. (vs : List ℤ) → Is body (Of l) s (meant vs x))
+Says l s r = MatchOption r (Isnt body (Of l) s) (λ x. Is body (Of l) s (meant x))

@@ -17,7 +17,7 @@ abbrev pub part : Record → Part
 part (Class c k s m) = of_sheet
 part (Rate c r) = of_sheet
 part (Series k p n d) = of_series
-part Array = of_array
+part (Array zs) = of_array
 part End = of_end
 part (Account t b s) = of_book
 part (Post t k l n) = of_book

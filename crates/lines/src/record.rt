@@ -1,7 +1,7 @@
 //! The ten kinds of line, and the record whose written form a line is.
 ghost use Rattle.lines.specs.Columns.{Is, Isnt};
-ghost use Rattle.lines.specs.Records.{Kept, Of, Says, Sound, body, meant, written};
-ghost use Rattle.std.specs.Prelude.{◌≡◌, MatchOption};
+ghost use Rattle.lines.specs.Records.{Says, Sound, meant, written};
+ghost use Rattle.std.specs.Prelude.{MatchOption};
 
 use crate::columns::{ended, number_at, number_or_blank_at};
 use crate::names::name_at;
@@ -10,7 +10,7 @@ use terms::codes::Code;
 use terms::keys::AskedKey;
 use terms::words::{Basis, Leg, Side};
 
-/// What a line says. A name stands without the blanks at its right; the eight values of an array stand beside it.
+/// What a line says. A name stands without the blanks at its right.
 #[derive(Clone, Copy, PartialEq, Eq, Debug)]
 pub enum Record<'a> {
     Class {
@@ -25,7 +25,9 @@ pub enum Record<'a> {
         shares: i64,
         delta: i64,
     },
-    Array,
+    Array {
+        values: [i64; 8],
+    },
     Rate {
         currency: Code,
         rate: i64,
@@ -95,18 +97,17 @@ fn read_series(s: &[u8]) -> Option<Record<'_>>
     })
 }
 
-/// R: eight values, which go to the caller's place.
-fn read_array<'a>(s: &'a [u8], values: &mut [i64; 8]) -> Option<Record<'a>>
-    ensures { MatchOption result (Isnt body (Of 82) s.now × (values.new ≡ values.old)) (λ x. Is body (Of 82) s.now (meant values.new x) × Kept values.old values.new x) }
+/// R: eight values.
+fn read_array(s: &[u8]) -> Option<Record<'_>>
+    ensures { Says 82 s.now result }
 {
-    let mut found = [0; 8];
+    let mut values = [0; 8];
     let mut rest = s;
-    for value in found.iter_mut() {
+    for value in values.iter_mut() {
         (*value, rest) = number_at(rest, 9)?;
     }
     ended(rest)?;
-    *values = found;
-    Some(Record::Array)
+    Some(Record::Array { values })
 }
 
 /// X: currency, rate.
@@ -204,17 +205,15 @@ fn read_deposit(s: &[u8]) -> Option<Record<'_>>
     })
 }
 
-/// The record whose written form a line is, its line feed with it. The values of an array go to the caller's place, which stays
-/// as it was at any other line.
-pub fn read_line<'a>(line: &'a [u8], values: &mut [i64; 8]) -> Option<Record<'a>>
-    ensures reads { MatchOption result (Isnt written Sound line.now) (λ x. Is written Sound line.now (meant values.new x)) }
-    ensures keeps { MatchOption result (values.new ≡ values.old) (λ x. Kept values.old values.new x) }
+/// The record whose written form a line is, its line feed with it.
+pub fn read_line(line: &[u8]) -> Option<Record<'_>>
+    ensures { MatchOption result (Isnt written Sound line.now) (λ x. Is written Sound line.now (meant x)) }
 {
     let (letter, rest) = line.split_first()?;
     match letter {
         b'C' => read_class(rest),
         b'S' => read_series(rest),
-        b'R' => read_array(rest, values),
+        b'R' => read_array(rest),
         b'X' => read_rate(rest),
         b'E' => read_end(rest),
         b'A' => read_account(rest),

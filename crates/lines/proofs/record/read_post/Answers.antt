@@ -5,4 +5,4 @@ pub returns-in_err-leg : goal.returns-in_err-leg
 returns-in_err-leg c = rw c.from_residual-in_err-leg.ensures (λ e o q. grind arith)
 
 pub returns : goal.returns
-returns c vs = record { fit = search rules; reads = search rules; only = λ e o q. grind arith }
+returns c = record { fit = search rules; reads = search rules; only = λ e o q. grind arith }
