@@ -8,13 +8,18 @@ use sheet::rows::Listing;
 use terms::faults::Fault;
 use terms::words::Currency;
 
+/// A series whose array lines come next, and its array as far as they have come.
+#[derive(Clone, Copy)]
+struct Pending {
+    listing: Listing,
+    array: [i64; 16],
+}
+
 /// Writes a draft from its lines, until E.
 #[derive(Drop)]
 pub struct SheetDesk<'b, 'a> {
     draft: &'b mut DraftSheet<'a>,
-    // The series whose array lines come next, and its array as far as they have come.
-    listing: Option<Listing>,
-    array: [i64; 16],
+    pending: Option<Pending>,
 }
 
 impl<'b, 'a> SheetDesk<'b, 'a> {
@@ -22,32 +27,33 @@ impl<'b, 'a> SheetDesk<'b, 'a> {
     pub fn new(draft: &'b mut DraftSheet<'a>) -> SheetDesk<'b, 'a> {
         SheetDesk {
             draft,
-            listing: None,
-            array: [0; 16],
+            pending: None,
         }
     }
 
     /// Judges a series at its own line, and keeps it until its array is whole.
     fn list(&mut self, listing: Listing) -> Result<(), Fault> {
         self.draft.judge_series(listing)?;
-        self.listing = Some(listing);
-        self.array = [0; 16];
+        self.pending = Some(Pending {
+            listing,
+            array: [0; 16],
+        });
         Ok(())
     }
 
     /// Takes eight values: the first eight wait for the second, with which the series enters the sheet.
     fn add_values(&mut self, section: Section, values: &[i64; 8]) -> Result<(), Fault> {
         judge_values(values)?;
-        match (section, self.listing) {
-            (Section::SecondArray, Some(listing)) => {
-                self.array[8..].copy_from_slice(values);
-                self.draft.add_series(listing, self.array)
-            }
-            _ => {
-                self.array[..8].copy_from_slice(values);
-                Ok(())
-            }
+        // `step` has refused an array that follows no series.
+        let Some(pending) = &mut self.pending else {
+            return Ok(());
+        };
+        if section == Section::FirstArray {
+            pending.array[..8].copy_from_slice(values);
+            return Ok(());
         }
+        pending.array[8..].copy_from_slice(values);
+        self.draft.add_series(pending.listing, pending.array)
     }
 }
 
