@@ -52,16 +52,13 @@ impl Reader {
         ensures refuses { IfErr result (λ f. f ≡ refused OutOfTurn OfLine) }
     {
         let next = match (self.section, rec) {
-            (Section::Sheet, Record::Class { .. }) => Section::Sheet,
-            (Section::Sheet, Record::Rate { .. }) => Section::Sheet,
+            (Section::Sheet, Record::Class { .. } | Record::Rate { .. }) => Section::Sheet,
             (Section::Sheet, Record::Series { .. }) => Section::FirstArray,
             (Section::FirstArray, Record::Array { .. }) => Section::SecondArray,
             (Section::SecondArray, Record::Array { .. }) => Section::Sheet,
             (Section::Sheet, Record::End) => Section::Book,
-            (Section::Book, Record::Account { .. }) => Section::Book,
-            (Section::Book, Record::Post { .. }) => Section::Book,
-            (Section::Book, Record::CloseOut { .. }) => Section::Book,
-            (Section::Book, Record::Move { .. }) => Section::Book,
+            (Section::Book, Record::Account { .. } | Record::Post { .. }) => Section::Book,
+            (Section::Book, Record::CloseOut { .. } | Record::Move { .. }) => Section::Book,
             (Section::Book, Record::Deposit { .. }) => Section::Book,
             _ => return Err(Fault::new(Refusal::Turn, Layer::Line)),
         };
