@@ -1,5 +1,5 @@
 -- Fields one after another, each cut off the front.
-use Rattle.std.proofs.Common.{◌≡◌, ℕ, List, ◌∷◌, ◌++◌, length, sym, ap, ◌∙◌, subst}
+use Rattle.std.proofs.Common.{◌≡◌, ℕ, List, ◌∷◌, ◌++◌, length, sym, ap, ◌∙◌}
 use Rattle.lines.specs.Columns.{Is, Isnt}
 use Rattle.lines.specs.Fields.{one, Front, Alien, plain_field}
 
@@ -17,14 +17,3 @@ module _ {A : Type 0} (W : A → List ℕ) (F : A → Type 0) (w : ℕ) (wide : 
     reads = p.reads ∙ ap (λ (z : List ℕ). 32 ∷ (z ++ t)) q.reads;
     only = λ b u g e. let r = p.only (W b) u (wide b g) e in (q.only b g (sym r.0), r.1);
   }
-
--- the same of a form that goes by the width of its field
-module _ {A : Type 0} (W : ℕ → A → List ℕ) (F : ℕ → A → Type 0) (wide : (w : ℕ) (a : A) → F w a → length (W w a) ≡ w) {w : ℕ} {s : List ℕ} where
-  pub uncut : Alien (plain_field w) s → Alien (one A (W w) (F w)) s
-  uncut = alien (W w) (F w) w (wide w)
-
-  pub unread : {f t : List ℕ} → Front (plain_field w) s f t → Isnt (W (length f)) (F (length f)) f → Alien (one A (W w) (F w)) s
-  unread {f} p q = front_isnt (W w) (F w) w (wide w) p (subst (λ (z : ℕ). Isnt (W z) (F z) f) p.fit q)
-
-  pub read : {f t : List ℕ} {a : A} → Front (plain_field w) s f t → Is (W (length f)) (F (length f)) f a → Front (one A (W w) (F w)) s a t
-  read {f} {t} {a} p q = front_is (W w) (F w) w (wide w) p (subst (λ (z : ℕ). Is (W z) (F z) f a) p.fit q)

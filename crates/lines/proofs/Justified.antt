@@ -1,7 +1,7 @@
 -- A number at the right of its field, or a field that is all blank.
-use Rattle.std.proofs.Common.{◌≡◌, ℕ, ◌-◌, ◌≤◌, ◌≢◌, eqb, List, length, drop, replicate, ℤ, Option, None, Some, refl, sym, ap, ◌∙◌, arith, option_map}
+use Rattle.std.proofs.Common.{◌≡◌, ℕ, ◌-◌, ◌≢◌, eqb, List, length, drop, replicate, ℤ, Option, None, Some, refl, sym, ap, ◌∙◌, arith, option_map}
 use Rattle.std.specs.Fmt.{signed_decimal}
-use Rattle.std.proofs.lemmas.List.{length-append, length-replicate, length-drop, drop_at, drop_all, append-nil}
+use Rattle.std.proofs.lemmas.List.{length-replicate, length-drop, drop_at, drop_all, append-nil}
 use Rattle.std.proofs.lemmas.List.Folds.{prefix_len-replicate}
 use Rattle.std.proofs.lemmas.List.Sums.{prefix_len-le-length}
 use Rattle.lines.specs.Columns.{right, column, column_or_blank, Is, Isnt, Exactly, Within, Fits, FitsOrBlank}
@@ -52,14 +52,3 @@ some_read f n = read
         only : (b : Option ℤ) → FitsOrBlank (length f) b → f ≡ column_or_blank (length f) b → b ≡ Some z
         only None g e = absurd (none e)
         only (Some y) g e = ap Some (h.only y g e)
-
--- columns are as wide as their field
-length-right : (w : ℕ) (t : List ℕ) → length t ≤ w → length (right w t) ≡ w
-length-right w t h = omega (arith, length-append (replicate (w - length t) 32) t, length-replicate {A = ℕ} (w - length t) 32)
-
-pub length-column : (w : ℕ) (z : ℤ) → Fits w z → length (column w z) ≡ w
-length-column w z f = length-right w (signed_decimal z) f.1
-
-pub length-column_or_blank : (w : ℕ) (a : Option ℤ) → FitsOrBlank w a → length (column_or_blank w a) ≡ w
-length-column_or_blank w None f = length-replicate w 32
-length-column_or_blank w (Some z) f = length-column w z f
