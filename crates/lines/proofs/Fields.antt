@@ -5,9 +5,6 @@ use Rattle.lines.specs.Fields.{one, Front, Alien, plain_field}
 
 -- bytes of a width, read as a value of a form of that width
 module _ {A : Type 0} (W : A → List ℕ) (F : A → Type 0) (w : ℕ) (wide : (a : A) → F a → length (W a) ≡ w) {s : List ℕ} where
-  pub alien : Alien (plain_field w) s → Alien (one A W F) s
-  alien p = record { none = λ b u g e. p.none (W b) u (wide b g) e }
-
   pub front_isnt : {f t : List ℕ} → Front (plain_field w) s f t → Isnt W F f → Alien (one A W F) s
   front_isnt p q = record { none = λ b u g e. q b g (sym (p.only (W b) u (wide b g) e).0) }
 
