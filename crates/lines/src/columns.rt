@@ -19,7 +19,7 @@ pub fn ended(s: &[u8]) -> Option<()>
     (s == b"\n".as_slice()).then_some(())
 }
 
-/// The bytes that a number may stand in: so few that what their digits say is below 10^13 and overflows nothing.
+/// The bytes that a number may stand in, few enough that no number of their digits overflows.
 #[derive(Clone, Copy)]
 struct Field<'a> {
     bytes: &'a [u8],
