@@ -3,10 +3,8 @@ ghost use Rattle.std.specs.Prelude.{◌≡◌, length};
 ghost use Rattle.account.specs.Outcomes.{beyond};
 ghost use Rattle.account.specs.Pieces.{margined, margined_counts};
 
+pub use charge::positions::FIGURE_LIMIT;
 use terms::words::Basis;
-
-/// The size up to which a mark, a charge or a currency sum is taken.
-pub const FIGURE_LIMIT: u64 = 100_000_000_000;
 
 /// Whether a figure is beyond the limit.
 pub fn is_beyond(figure: i64) -> bool

@@ -12,7 +12,7 @@ use terms::words::{Label, Layer, Refusal};
 const COUNT_LIMIT: u64 = 3_200_000;
 
 /// The greatest figure, in cents.
-const FIGURE_LIMIT: u64 = 100_000_000_000;
+pub const FIGURE_LIMIT: u64 = 100_000_000_000;
 
 /// A position that fits its class: a count for each series, and none beyond its limit.
 #[derive(Clone, Copy)]
