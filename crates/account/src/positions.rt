@@ -8,6 +8,7 @@ ghost use Rattle.account.specs.Figures.{amounts, position_figure};
 use crate::pieces::is_beyond;
 use charge::charges::Charge;
 use charge::positions::Position;
+use sheet::limits::MOST_SERIES;
 use terms::faults::Fault;
 use terms::words::{Basis, Layer, Refusal};
 
@@ -37,7 +38,7 @@ fn gross_amounts<C: Charge>(charge: &C, position: &Position) -> Result<i64, Faul
     ensures bound { IfOk result (λ z. unsigned_abs z ≤ 12800000000000) }
     ensures answer { result ≡ amounts (C.Charge.meaning charge.now) (plain position.now.class.now) (pieces Gross position.now.counts.now) }
 {
-    let mut piece = [0; 128];
+    let mut piece = [0; MOST_SERIES];
     let piece = &mut piece[..position.counts.len()];
     let mut total = 0;
     for (i, &count) in position.counts.iter().enumerate() {

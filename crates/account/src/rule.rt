@@ -12,13 +12,14 @@ use crate::offset::{CurrencySums, Offset};
 use crate::pieces::margin_counts;
 use crate::sums::ClassFigures;
 use charge::charges::Charge;
+use sheet::limits::{MOST_CLASSES, MOST_SERIES};
 use terms::faults::Fault;
 
 /// What an account's margin comes to. Class figures stand in the order of the sheet's classes, 0 past the last;
 /// sums and what is owed in the order of the currencies.
 #[derive(Clone, Copy)]
 pub struct AccountReport {
-    pub class_figures: [i64; 16],
+    pub class_figures: [i64; MOST_CLASSES],
     pub sums: [i64; 5],
     pub value: i64,
     pub owed: [u64; 5],
@@ -31,7 +32,7 @@ impl Default for AccountReport {
 
     fn default() -> AccountReport {
         AccountReport {
-            class_figures: [0; 16],
+            class_figures: [0; MOST_CLASSES],
             sums: [0; 5],
             value: 0,
             owed: [0; 5],
@@ -50,7 +51,7 @@ fn tally<C: Charge>(
     ensures answer { result_map_both (λ s. tally figures.new s.sums) (λ f. f) result ≡ tally_on (C.Charge.meaning charge.now) account.now }
     ensures rates { IfOk result (λ s. s.rates ≡ account.now.sheet.rates.by_number) }
 {
-    let mut counts = [0; 128];
+    let mut counts = [0; MOST_SERIES];
     let counts = &mut counts[..account.longs.len()];
     margin_counts(account.basis, account.longs, account.shorts, counts);
     let margined = MarginedCounts {
@@ -78,7 +79,7 @@ pub fn margin_account<C: Charge>(
     ensures bound { OnOk result (report.new.requirement ≤ 100000000000000000) }
 {
     let classes = account.sheet.class_count();
-    let mut class_figures = [0; 16];
+    let mut class_figures = [0; MOST_CLASSES];
     let totals = tally(charge, account, &mut class_figures[..classes])?;
     let sums = totals.sums;
     let Offset { owed, requirement } = totals.offset();
