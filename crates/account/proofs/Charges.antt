@@ -21,8 +21,8 @@ use Rattle.charge.specs.Replies.{amount_answer}
 use Rattle.terms.specs.declared.codes.Code.{Code}
 use Rattle.terms.specs.declared.names.Name.{Name}
 use Rattle.terms.specs.declared.words.Basis.{Basis}
-use Rattle.account.specs.Outcomes.{beyond, and_then, plus}
-use Rattle.account.specs.Pieces.{single, pieces, mark}
+use Rattle.account.specs.Outcomes.{beyond, bounded, and_then, plus}
+use Rattle.account.specs.Pieces.{single, pieces, mark, marks}
 use Rattle.account.specs.Figures.{in_class, handed_up, amounts, position_figure, class_figure}
 use Rattle.account.proofs.Marks.{marks_of_pieces}
 use Rattle.account.proofs.Outcomes.{never}
@@ -87,18 +87,17 @@ pub amount_made : (m : Meaning) (t : Terms) (p : List ℤ) (r : Result ℤ Fault
 amount_made m t p (Ok z) e = omega (arith, amount_small m t p z e)
 amount_made m t p (Err f) e = tt
 
--- the figure of a position by what was computed: z the mark, r the answer of the charges
-module _ (m : Meaning) (b : Basis) (t : Terms) (p : List ℤ) (z : ℤ) (e : z ≡ mark t.rows p) where
-  at_mark : position_figure m b t p ≡ cond (beyond z) (Err (refused TooLarge Account)) (plus z (amounts m t (pieces b p)))
-  at_mark = ap (λ (x : ℤ). cond (beyond x) (Err (refused TooLarge Account)) (plus x (amounts m t (pieces b p)))) (marks_of_pieces b t.rows p ∙ sym e)
+-- a figure that is tested, and then worked on
+tested : {Y : Type 0} (q : Bool) (f : Fault) (z : ℤ) (k : ℤ → Result Y Fault) → and_then (cond q (Err f) (Ok z)) k ≡ cond q (Err f) (k z)
+tested true f z k = refl
+tested false f z k = refl
 
-  pub figure_refused : beyond z ≡ true → Err (refused TooLarge Account) ≡ position_figure m b t p
-  figure_refused h = sym (at_mark ∙ ap (λ (q : Bool). cond q (Err (refused TooLarge Account)) (plus z (amounts m t (pieces b p)))) h)
-
-  pub figure_answered : beyond z ≡ false → (r : Result ℤ Fault) → r ≡ amounts m t (pieces b p) → plus z r ≡ position_figure m b t p
-  figure_answered h r k =
-      sym (at_mark ∙ ap (λ (q : Bool). cond q (Err (refused TooLarge Account)) (plus z (amounts m t (pieces b p)))) h
-      ∙ ap (λ (x : Result ℤ Fault). plus z x) (sym k))
+-- the figure of a position by what was computed: z the mark, r what its test answers
+pub figure_from : (m : Meaning) (b : Basis) (t : Terms) (p : List ℤ) (z : ℤ) (r : Result ℤ Fault) → z ≡ mark t.rows p → r ≡ bounded z → and_then r (λ y. plus y (amounts m t (pieces b p))) ≡ position_figure m b t p
+figure_from m b t p z r e h =
+    let work = λ (y : ℤ). plus y (amounts m t (pieces b p)) in
+    ap (λ (r : Result ℤ Fault). and_then r work) (h ∙ ap bounded (e ∙ sym (marks_of_pieces b t.rows p)))
+    ∙ tested (beyond (marks t.rows (pieces b p))) (refused TooLarge Account) (marks t.rows (pieces b p)) work
 
 -- the figure of a class by what is equal to its code, its terms and its counts
 module _ (name : Name) (code : Code) where

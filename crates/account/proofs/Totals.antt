@@ -1,5 +1,5 @@
 -- Currency sums and values are formed from the front; accepted sums lie within their limit, and a debit has a rate.
-use Rattle.std.proofs.Common.{◌≡◌, ℕ, zero, suc, ◌+◌, ◌*◌, ◌<◌, ◌≤◌, Bool, true, false, cond, List, [], ◌∷◌, length, get_or, ℤ, pos, negsuc, ◌+ℤ◌, ◌*ℤ◌, nat_abs, Ok, Err, Result, refl, ap, ⊎_elim, arith}
+use Rattle.std.proofs.Common.{◌≡◌, ℕ, zero, suc, ◌+◌, ◌*◌, ◌<◌, ◌≤◌, Bool, true, false, cond, List, [], ◌∷◌, length, get_or, ℤ, pos, negsuc, ◌+ℤ◌, ◌*ℤ◌, nat_abs, Ok, Err, Result, sym, refl, ap, ◌∙◌, ⊎_elim, arith}
 use lib.IntN.{+ℤ_idl}
 use Rattle.std.specs.List.{All as AllAt, AllByRecursion as All}
 use Rattle.std.specs.Prelude.{IsTrue}
@@ -15,7 +15,12 @@ use Rattle.terms.specs.Words.{currency_number}
 use Rattle.sheet.specs.declared.rows.ClassRow.{ClassRow}
 use Rattle.sheet.specs.Limits.{quoted, class_fits}
 use Rattle.std.proofs.lemmas.List.Elements.{recursion_from_All}
-use Rattle.account.specs.Outcomes.{beyond, and_then, onto, each}
+use Rattle.std.proofs.lemmas.Result.{err_from_is_err_and}
+use Rattle.std.specs.Result.{MatchResult, IsErrAnd}
+use Rattle.terms.specs.declared.words.Refusal.TheVariants.{TooLarge}
+use Rattle.terms.specs.declared.words.Layer.TheVariants.{Account}
+use Rattle.terms.specs.Faults.{refused}
+use Rattle.account.specs.Outcomes.{beyond, bounded, and_then, onto, each}
 use Rattle.account.specs.Figures.{Bounded}
 use Rattle.account.specs.Sums.{currencies, currency_at, same_currency, sum_of, currency_too_large, currency_sum, sums_of, value_of}
 use Rattle.account.specs.Offset.{debit, credit, fund_of, Limits}
@@ -72,6 +77,14 @@ took (Err f) s xs e = absurd (never f xs e)
 within : (b : Bool) (f : Fault) (y z : ℤ) → cond b (Err f) (Ok y) ≡ Ok z → (b ≡ false) × (z ≡ y)
 within true f y z e = absurd (never f z e)
 within false f y z e = (refl, cc)
+
+pub within_limit : (y z : ℤ) → Ok y ≡ bounded z → nat_abs y ≤ 100000000000
+within_limit y z h = let w = within (beyond z) (refused TooLarge Account) z y (sym h) in rw w.1 (ltb-false 100000000000 (nat_abs z) w.0)
+
+-- a sum that passed its test, or whose refusal then was told account and currency
+pub told_sum : (b : Bool) (f : Fault) (g : Fault → Fault) (z : ℤ) (r s : Result ℤ Fault) {P : Fault → Fault → Type 0} → r ≡ cond b (Err f) (Ok z) → MatchResult r (λ z. s ≡ Ok z) (λ e. IsErrAnd s (P e)) → ((e f : Fault) → P e f → f ≡ g e) → s ≡ cond b (Err (g f)) (Ok z)
+told_sum true f g z r s q h told = let p = err_from_is_err_and s (rw q at h) in p.1 ∙ ap Err (told f p.0 p.2)
+told_sum false f g z r s q h told = rw q at h
 
 -- an accepted sum lies within its limit and is that of its currency; past the currencies there is none
 module _ (name : Name) (ks : List ClassRow) (zs : List ℤ) where

@@ -1,9 +1,17 @@
 -- Figures that may be refused, one after the other.
-use Rattle.std.specs.Prelude.{Bool, List, [], ◌∷◌, ◌++◌, ℤ, ◌+ℤ◌, Ok, Err, Result, nat_lt, unsigned_abs}
+use Rattle.std.specs.Prelude.{Bool, cond, List, [], ◌∷◌, ◌++◌, ℤ, ◌+ℤ◌, Ok, Err, Result, nat_lt, unsigned_abs}
+use Rattle.terms.specs.declared.words.Refusal.TheVariants.{TooLarge}
+use Rattle.terms.specs.declared.words.Layer.TheVariants.{Account}
+use Rattle.terms.specs.declared.faults.Fault.{Fault}
+use Rattle.terms.specs.Faults.{refused}
 
 -- A figure is too large when it lies beyond 10^11 cents of zero.
 abbrev pub beyond : ℤ → Bool
 beyond z = nat_lt 100000000000 (unsigned_abs z)
+
+-- A figure, or where it is too large refusal 9 of the account's layer.
+abbrev pub bounded : ℤ → Result ℤ Fault
+bounded z = cond (beyond z) (Err (refused TooLarge Account)) (Ok z)
 
 -- What follows is done with the answer; a refusal ends it.
 abbrev pub and_then : {X Y E : Type 0} → Result X E → (X → Result Y E) → Result Y E

@@ -1,16 +1,27 @@
 //! An account's margined counts, and the limit of its figures.
 ghost use Rattle.std.specs.Prelude.{◌≡◌, length};
-ghost use Rattle.account.specs.Outcomes.{beyond};
+ghost use Rattle.account.specs.Outcomes.{beyond, bounded};
 ghost use Rattle.account.specs.Pieces.{margined, margined_counts};
 
 pub use charge::positions::FIGURE_LIMIT;
-use terms::words::Basis;
+use terms::faults::Fault;
+use terms::words::{Basis, Layer, Refusal};
 
 /// Whether a figure is beyond the limit.
 pub fn is_beyond(figure: i64) -> bool
     ensures answer { result ≡ beyond figure }
 {
     figure.unsigned_abs() > FIGURE_LIMIT
+}
+
+/// The figure, refused if it is too large.
+pub(crate) fn bounded(figure: i64) -> Result<i64, Fault>
+    ensures answer { result ≡ bounded figure }
+{
+    if is_beyond(figure) {
+        return Err(Fault::new(Refusal::TooLarge, Layer::Account));
+    }
+    Ok(figure)
 }
 
 fn margined_count(basis: Basis, long: u32, short: u32) -> i64

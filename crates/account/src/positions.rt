@@ -5,12 +5,12 @@ ghost use Rattle.sheet.specs.Plain.{plain};
 ghost use Rattle.account.specs.Pieces.{pieces, mark};
 ghost use Rattle.account.specs.Figures.{amounts, position_figure};
 
-use crate::pieces::is_beyond;
+use crate::pieces::bounded;
 use charge::charges::Charge;
 use charge::positions::Position;
 use sheet::limits::MOST_SERIES;
 use terms::faults::Fault;
-use terms::words::{Basis, Layer, Refusal};
+use terms::words::Basis;
 
 /// Minus count × price × shares.
 fn line_mark(count: i64, price: u32, shares: u32) -> i64
@@ -69,9 +69,6 @@ pub(crate) fn position_figure<C: Charge>(
     ensures bound { IfOk result (λ z. unsigned_abs z ≤ 12900000000000) }
     ensures answer { result ≡ position_figure (C.Charge.meaning charge.now) basis (plain position.now.class.now) position.now.counts.now }
 {
-    let mark = mark(position);
-    if is_beyond(mark) {
-        return Err(Fault::new(Refusal::TooLarge, Layer::Account));
-    }
+    let mark = bounded(mark(position))?;
     Ok(mark + amounts(charge, position, basis)?)
 }

@@ -7,9 +7,9 @@ ghost use Rattle.account.specs.Accounts.{sums_on};
 
 use crate::accounts::Account;
 use crate::offset::CurrencySums;
-use crate::pieces::is_beyond;
+use crate::pieces::bounded;
 use terms::faults::Fault;
-use terms::words::{Currency, Layer, Refusal};
+use terms::words::Currency;
 
 /// An account with the figure of each class of its sheet.
 #[derive(Clone, Copy)]
@@ -38,15 +38,8 @@ impl ClassFigures<'_> {
     fn currency_sum(&self, wanted: Currency) -> Result<i64, Fault>
         ensures answer { result ≡ currency_sum self.now.account.name self.now.account.sheet.classes.now self.now.figures.now wanted }
     {
-        let sum = self.sum_in(wanted);
-        if is_beyond(sum) {
-            return Err(
-                Fault::new(Refusal::TooLarge, Layer::Account)
-                    .with_account(self.account.name)
-                    .with_currency(wanted),
-            );
-        }
-        Ok(sum)
+        let name = self.account.name;
+        bounded(self.sum_in(wanted)).map_err(|fault| fault.with_account(name).with_currency(wanted))
     }
 
     /// The sums of the five currencies with their rates, up to the first refusal.
