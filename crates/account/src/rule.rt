@@ -67,6 +67,7 @@ fn tally<C: Charge>(
 }
 
 /// Margins one account and fills its report; a refusal leaves the report as it was.
+// It fills a place of the caller's, as memory is lent everywhere here; what the place holds at a refusal is promised too.
 pub fn margin_account<C: Charge>(
     charge: &C,
     account: &Account,
