@@ -16,6 +16,8 @@ pub struct CurrencySums {
 pub struct Offset {
     pub owed: [u64; 5],
     pub requirement: u64,
+    ghost modest: { Owable owed },
+    ghost bound: { requirement ≤ 100000000000000000 },
 }
 
 fn debit_of(sum: i64) -> u64
@@ -76,7 +78,6 @@ impl CurrencySums {
     fn settle(&self, fund: u64) -> Offset
         ensures owed { result.owed ≡ owed_of fund self.now.sums self.now.rates }
         ensures requirement { result.requirement ≡ requirement_of result.owed self.now.rates }
-        ensures bound { result.requirement ≤ 100000000000000000 }
     {
         let mut left = fund;
         let mut owed = [0; 5];
@@ -98,8 +99,6 @@ impl CurrencySums {
         ensures owed { result.owed ≡ owed_of (fund_of self.now.sums self.now.rates) self.now.sums self.now.rates }
         ensures requirement { result.requirement ≡ requirement_of result.owed self.now.rates }
         ensures law { Law self.now.sums self.now.rates result.owed result.requirement }
-        ensures owable { Owable result.owed }
-        ensures bound { result.requirement ≤ 100000000000000000 }
     {
         self.settle(self.fund())
     }

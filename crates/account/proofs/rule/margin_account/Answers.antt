@@ -25,6 +25,6 @@ returns g c =
       answer = ap Ok e ∙ t;
       after = e ∙ ap (λ r. left_in r c.args.report.now) t;
       law = search rules;
-      owed = o.owable;
-      bound = o.bound;
+      owed = c.offset-requirement.result.modest;
+      bound = c.offset-requirement.result.bound;
     }
