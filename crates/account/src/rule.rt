@@ -17,6 +17,7 @@ use terms::faults::Fault;
 
 /// What an account's margin comes to. Class figures stand in the order of the sheet's classes, 0 past the last;
 /// sums and what is owed in the order of the currencies.
+// A bound of what is owed as a ghost field, as `Offset` has, was tried: `report_of` is then "missing field(s) of `AccountReport`", as mere figures have no bound.
 #[derive(Clone, Copy)]
 pub struct AccountReport {
     pub class_figures: [i64; MOST_CLASSES],
@@ -27,6 +28,7 @@ pub struct AccountReport {
 }
 
 /// A place to be filled.
+// By hand: a derived default is the blank report too, but no clause says so of it.
 impl Default for AccountReport {
     ghost is_default = { λ r. r ≡ blank_report };
 
