@@ -4,5 +4,6 @@ pub mod Parts
 pub mod Marks
 pub mod Charges
 pub mod Totals
+pub mod Chains
 pub mod Offsets
 pub mod Reports

@@ -25,13 +25,14 @@ impl ClassFigures<'_> {
     fn sum_in(&self, wanted: Currency) -> i64
         ensures value { result ≡ sum_of wanted self.now.account.sheet.classes.now self.now.figures.now }
     {
-        let mut sum = 0;
-        for (row, &figure) in self.account.sheet.class_rows().iter().zip(self.figures) {
-            if row.currency == wanted {
-                sum += figure;
-            }
-        }
-        sum
+        self.account
+            .sheet
+            .class_rows()
+            .iter()
+            .zip(self.figures)
+            .filter(|(row, _)| row.currency == wanted)
+            .map(|(_, figure)| *figure)
+            .sum()
     }
 
     /// The sum of one currency, refused if it is too large.

@@ -1,36 +1,27 @@
-use Rattle.std.proofs.Common.{length, sym, ap, ◌∙◌, arith}
-use borrow.Author.Differences.{ints}
-use Rattle.std.proofs.lemmas.List.{nil_from_length}
-use Rattle.account.proofs.Kit.{sum_back, abs_add}
-use Rattle.account.proofs.Totals.{same_is, bounded_ahead, sum_ahead, sum_none}
+use Rattle.std.proofs.Common.{◌≤◌, length, pos, ◌+ℤ◌, ◌∙◌, rules, tests, w64, SFits}
+use lib.IntN.{+ℤ_idl}
+use Rattle.std.proofs.lemmas.Int.{to_z-of_z}
+use Rattle.std.proofs.lemmas.Iterator.{YieldsList-from_slice, YieldsList-from_zip, YieldsList-from_map}
+use Rattle.std.proofs.lemmas.Iterator.Adapters.{total_from_yields_List}
+use Rattle.std.proofs.lemmas.Iterator.Consumers.{YieldsList-from_filter, YieldsList-at}
+use Rattle.account.proofs.Totals.{same_is}
+use Rattle.account.proofs.Chains.{is_of, figure, picked_fits, picked_sum}
 use Rattle.account.proofs.sums.ClassFigures.sum_in.Goals as goal
 
-pub loop-row-preserved-then-eq : goal.loop-row-preserved-then-eq
-loop-row-preserved-then-eq c =
-    let now = c.in-Some.ensures.steps in
-    let z = c.in-Some.field-0-1.now in
-    let e = c.loop-row.sum-is in
-    let i = rw e at c.loop-row.invariant in
-    let small = bounded_ahead _ _ _ now.1 i.bounded in
-    let b = sum_back c.loop-row.sum z (omega (arith, i.bound, small.0, ap length now.0)) in
-    let same = sym (same_is _ _) ∙ sym c.eq.ensures ∙ c.if-eq.true in
-    record {
-      bounded = small.1;
-      bound = rw (e, b) (omega (arith, abs_add c.loop-row.sum z, i.bound, small.0, ap length now.0));
-      ahead = rw (e, b) (omega (arith, ints, i.ahead, rw same at (sum_ahead c.args.wanted _ _ _ _ _ _ now.0 now.1)));
-    }
-
-pub loop-row-preserved : goal.loop-row-preserved
-loop-row-preserved c =
-    let now = c.in-Some.ensures.steps in
-    let e = c.loop-row.sum-is in
-    let i = rw e at c.loop-row.invariant in
-    let same = sym (same_is _ _) ∙ sym c.eq.ensures ∙ c.if-eq.false in
-    record {
-      bounded = (bounded_ahead _ _ _ now.1 i.bounded).1;
-      bound = rw e (omega (arith, i.bound, ap length now.0));
-      ahead = rw e (omega (arith, ints, i.ahead, rw same at (sum_ahead c.args.wanted _ _ _ _ _ _ now.0 now.1)));
-    }
+pub sum-requires-clause-fits : goal.sum-requires-clause-fits
+sum-requires-clause-fits c =
+    let self = c.args.self.now in
+    let few : length self.account.sheet.classes.now ≤ 16 = search rules in
+    picked_fits c.map.result c.args.wanted self.account.sheet.classes.now self.figures.now self.bounded few
+    (YieldsList-from_map _ figure (YieldsList-at c.map.ensures.source (YieldsList-from_filter _ (is_of c.args.wanted) (YieldsList-at c.filter.ensures.source (YieldsList-from_zip (YieldsList-from_slice self.account.sheet.classes.now (cc)) (YieldsList-from_slice self.figures.now (cc)))) c.filter.ensures.closure (λ x b q k. (search rules, search (rules, tests, same_is))))) c.map.ensures.closure (λ x r q k. search (rules, tests)))
 
 pub returns : goal.returns
-returns c = record { value = grind (arith, ints, nil_from_length, sum_none) }
+returns c =
+    let self = c.args.self.now in
+    let f : SFits w64 c.sum.result = search rules in
+    record {
+      value = to_z-of_z w64 _ f
+          ∙ total_from_yields_List ◌+ℤ◌ (pos 0) c.sum.result c.sum.ensures.ran
+          (YieldsList-from_map _ figure (YieldsList-at c.map.ensures.source (YieldsList-from_filter _ (is_of c.args.wanted) (YieldsList-at c.filter.ensures.source (YieldsList-from_zip (YieldsList-from_slice self.account.sheet.classes.now (cc)) (YieldsList-from_slice self.figures.now (cc)))) c.filter.ensures.closure (λ x b q k. (search rules, search (rules, tests, same_is))))) c.map.ensures.closure (λ x r q k. search (rules, tests)))
+          ∙ picked_sum c.args.wanted self.account.sheet.classes.now self.figures.now (pos 0) ∙ +ℤ_idl _;
+    }
