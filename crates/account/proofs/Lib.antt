@@ -5,5 +5,6 @@ pub mod Marks
 pub mod Charges
 pub mod Totals
 pub mod Chains
+pub mod Lines
 pub mod Offsets
 pub mod Reports

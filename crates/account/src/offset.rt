@@ -67,11 +67,11 @@ impl CurrencySums {
     fn fund(&self) -> u64
         ensures value { result ≡ fund_of self.now.sums self.now.rates }
     {
-        let mut fund = 0;
-        for (&sum, &rate) in self.sums.iter().zip(&self.rates) {
-            fund += credit_of(sum) * u64::from(rate);
-        }
-        fund
+        self.sums
+            .iter()
+            .zip(&self.rates)
+            .map(|(&sum, &rate)| credit_of(sum) * u64::from(rate))
+            .sum()
     }
 
     /// What a fund leaves owed, currency by currency.

@@ -1,32 +1,35 @@
-use Rattle.std.proofs.Common.{◌≡◌, ◌*◌, ◌≤◌, length, ap, ◌∙◌, arith, w64, SFits, rules}
-use Rattle.std.proofs.lemmas.Int.{to_z-of_z}
+use Rattle.std.proofs.Common.{◌≡◌, length, ◌∙◌, arith, rules, tests}
+use Rattle.std.proofs.lemmas.Iterator.{YieldsList-from_slice, YieldsList-from_zip, YieldsList-from_map}
+use Rattle.std.proofs.lemmas.Iterator.Adapters.{serves_from_places}
+use Rattle.std.proofs.lemmas.Iterator.Consumers.{YieldsList-at, sum_from_yields_List, fits_from_yields_list}
 use Rattle.std.proofs.lemmas.Nat.{mul-le}
 use Rattle.account.specs.Offset.{credit}
-use Rattle.account.proofs.Totals.{limits_ahead, one_limited, fund_ahead}
+use Rattle.account.proofs.Lines.{line_limited, credit_line, credit_lines, fund_small}
 use Rattle.account.proofs.offset.CurrencySums.fund.Goals as goal
 
-credit_is : (c : goal.After-from) → c.credit_of.result ≡ credit c.in-Some.field-0-0.now
-credit_is c = let f : SFits w64 c.in-Some.field-0-0.now = search rules in c.credit_of.ensures.value ∙ ap credit (to_z-of_z w64 _ f)
+pub sum-requires-clause-can : goal.sum-requires-clause-can
+sum-requires-clause-can c =
+    let self = c.args.self.now in (
+      (tt, tt),
+      serves_from_places (YieldsList-at c.map.ensures.source (YieldsList-from_zip (YieldsList-from_slice self.sums (cc)) (YieldsList-from_slice self.rates (cc)))) (λ x q r. search rules) (λ x k l e.
+          let one = line_limited self.sums self.rates self.limits k _ _ l e in
+          let small = mul-le (credit x.0.now) x.1.now 100000000000 200000 one.1 one.2 in
+          search (rules, small)),
+    )
 
-small : (c : goal.After-from) → c.credit_of.result * c.from.result ≤ 20000000000000000
-small c =
-    let now = c.in-Some.ensures.steps in
-    let one = one_limited _ _ _ _ _ _ now.0 now.1 c.loop-sum.invariant.limits in
-    mul-le _ _ 100000000000 200000 (omega (arith, credit_is c, one.1)) (omega (arith, c.from.ensures, one.2))
+pub sum-requires-clause-fits : goal.sum-requires-clause-fits
+sum-requires-clause-fits c =
+    let self = c.args.self.now in
+    let five : length self.sums ≡ 5 = search rules in
+    fits_from_yields_list c.map.result _
+    (YieldsList-from_map _ credit_line (YieldsList-at c.map.ensures.source (YieldsList-from_zip (YieldsList-from_slice self.sums (cc)) (YieldsList-from_slice self.rates (cc)))) c.map.ensures.closure (λ x r q k. search (rules, tests)))
+    (rw credit_lines (omega (arith, five, fund_small self.sums self.rates self.limits)))
 
-pub overflow_mul-fund : goal.overflow_mul-fund
-overflow_mul-fund c = omega (arith, small c)
-
-pub overflow_add-fund : goal.overflow_add-fund
-overflow_add-fund c = omega (arith, small c)
-
-pub loop-sum-preserved : goal.loop-sum-preserved
-loop-sum-preserved c =
-    let now = c.in-Some.ensures.steps in
-    let i = c.loop-sum.invariant in
-    let f = rw (← credit_is c, ← c.from.ensures) at (fund_ahead _ _ _ _ _ _ now.0 now.1) in
+pub returns : goal.returns
+returns c =
+    let self = c.args.self.now in
     record {
-      limits = limits_ahead _ _ _ _ _ _ now.0 now.1 i.limits;
-      bound = omega (arith, small c, i.bound, ap length now.0);
-      ahead = omega (arith, f, i.ahead);
+      value = sum_from_yields_List c.map.result _ c.sum.ensures.ran
+          (YieldsList-from_map _ credit_line (YieldsList-at c.map.ensures.source (YieldsList-from_zip (YieldsList-from_slice self.sums (cc)) (YieldsList-from_slice self.rates (cc)))) c.map.ensures.closure (λ x r q k. search (rules, tests)))
+          ∙ credit_lines self.sums self.rates;
     }
