@@ -26,11 +26,13 @@ fn line_mark(count: i64, price: u32, shares: u32) -> i64
 pub fn mark(position: &Position) -> i64
     ensures value { result ≡ mark (plain position.now.class.now).rows position.now.counts.now }
 {
-    let mut sum = 0;
-    for (row, &count) in position.class.series.iter().zip(position.counts) {
-        sum += line_mark(count, row.price, row.shares);
-    }
-    sum
+    position
+        .class
+        .series
+        .iter()
+        .zip(position.counts)
+        .map(|(row, &count)| line_mark(count, row.price, row.shares))
+        .sum()
 }
 
 /// The charges of a gross account's pieces, series by series.

@@ -1,37 +1,37 @@
-use Rattle.std.proofs.Common.{length, ap, arith, rules}
-use borrow.Author.Differences.{ints}
-use Rattle.std.proofs.lemmas.List.{nil_from_length}
+use Rattle.std.proofs.Common.{length, pos, ◌+ℤ◌, ◌∙◌, arith, rules, tests, w64, SFits}
+use lib.IntN.{+ℤ_idl}
+use Rattle.std.proofs.lemmas.Int.{to_z-of_z}
+use Rattle.std.proofs.lemmas.Iterator.{YieldsList-from_slice, YieldsList-from_zip, YieldsList-from_map}
+use Rattle.std.proofs.lemmas.Iterator.Adapters.{serves_from_places, total_from_yields_List}
+use Rattle.std.proofs.lemmas.Iterator.Consumers.{YieldsList-at}
 use Rattle.charge.proofs.Dots.{fits_parts}
-use Rattle.account.proofs.Kit.{back, sum_back, abs_add}
-use Rattle.account.proofs.Marks.{worths_ahead, small_ahead, mark_ahead, mark_none}
+use Rattle.account.proofs.Chains.{runs_fit, mark_limited, mark_line, mark_lines, marks_small}
 use Rattle.account.proofs.positions.mark.Goals as goal
 
-pub loop-row-init : goal.loop-row-init
-loop-row-init c =
+pub sum-requires-clause-can : goal.sum-requires-clause-can
+sum-requires-clause-can c =
+    let position = c.args.position.now in
+    let parts = fits_parts (length position.class.now.series.now) position.counts.now position.fits_class in (
+      (tt, tt),
+      serves_from_places (YieldsList-at c.map.ensures.source (YieldsList-from_zip (YieldsList-from_slice position.class.now.series.now (search rules)) (YieldsList-from_slice position.counts.now (search rules)))) (λ x q r. search rules) (λ x k l e.
+          let one = mark_limited position.class.now.series.now position.counts.now position.class.now.worths parts.1 k _ _ l e in
+          search (rules, one)),
+    )
+
+pub sum-requires-clause-fits : goal.sum-requires-clause-fits
+sum-requires-clause-fits c =
     let position = c.args.position.now in
     let parts = fits_parts (length position.class.now.series.now) position.counts.now position.fits_class in
-    let worths = position.class.now.worths in
-    search rules
-
-pub line_mark-sum-requires-clause-worth : goal.line_mark-sum-requires-clause-worth
-line_mark-sum-requires-clause-worth c = let now = c.in-Some.ensures.steps in (worths_ahead _ _ _ now.0 c.loop-row.invariant.worths).0
-
-pub loop-row-preserved : goal.loop-row-preserved
-loop-row-preserved c =
-    let now = c.in-Some.ensures.steps in
-    let r = c.line_mark-sum.result in
-    let told = c.line_mark-sum.ensures in
-    let e = c.loop-row.sum-is in
-    let i = rw e at c.loop-row.invariant in
-    let small = small_ahead _ _ _ now.1 i.small in
-    let b = sum_back c.loop-row.sum r (omega (arith, i.bound, told.bound)) in
-    let v = rw (back c.in-Some.field-0-1.now (omega (arith, small.0))) at told.value in
-    record {
-      worths = (worths_ahead _ _ _ now.0 i.worths).1;
-      small = small.1;
-      bound = rw (e, b) (omega (arith, abs_add c.loop-row.sum r, i.bound, told.bound, ap length now.0));
-      ahead = rw (e, b) (omega (arith, ints, i.ahead, v, mark_ahead _ _ _ _ _ _ now.0 now.1));
-    }
+    runs_fit c.map.result _ (λ n. omega (arith, position.class.now.inside.2, marks_small n position.class.now.series.now position.counts.now (pos 0) position.class.now.worths parts.1))
+    (YieldsList-from_map _ mark_line (YieldsList-at c.map.ensures.source (YieldsList-from_zip (YieldsList-from_slice position.class.now.series.now (search rules)) (YieldsList-from_slice position.counts.now (search rules)))) c.map.ensures.closure (λ x r q k. search (rules, tests)))
 
 pub returns : goal.returns
-returns c = record { value = grind (arith, ints, nil_from_length, mark_none) }
+returns c =
+    let position = c.args.position.now in
+    let f : SFits w64 c.sum.result = search rules in
+    record {
+      value = to_z-of_z w64 _ f
+          ∙ total_from_yields_List ◌+ℤ◌ (pos 0) c.sum.result c.sum.ensures.ran
+          (YieldsList-from_map _ mark_line (YieldsList-at c.map.ensures.source (YieldsList-from_zip (YieldsList-from_slice position.class.now.series.now (search rules)) (YieldsList-from_slice position.counts.now (search rules)))) c.map.ensures.closure (λ x r q k. search (rules, tests)))
+          ∙ mark_lines position.class.now.series.now position.counts.now (pos 0) ∙ +ℤ_idl _;
+    }
