@@ -56,7 +56,6 @@ impl CurrencySums {
         ensures value { result ≡ value_of self.now.sums self.now.rates }
         ensures bound { unsigned_abs result ≤ 100000000000000000 }
     {
-        // A loop: a chain is proved too, but has no written start, which the edit `value_from_one` changes.
         let mut value = 0;
         for (&sum, &rate) in self.sums.iter().zip(&self.rates) {
             value += value_line(sum, rate);

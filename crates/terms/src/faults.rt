@@ -47,7 +47,7 @@ impl Fault {
         }
     }
 
-    // One for each part: one method taking a closure would have every caller write `|place| Place { class: Some(class), ..place }`.
+    // One for each part: one method taking a closure would have every caller write `|place| Place { class: Some(c), ..place }`.
 
     pub fn with_line(self, line: u32) -> Fault
         ensures value { result ≡ with_line line self }
