@@ -207,7 +207,7 @@ fn read_deposit(s: &[u8]) -> Option<Record<'_>>
 
 /// The record whose written form a line is, its line feed with it.
 pub fn read_line(line: &[u8]) -> Option<Record<'_>>
-    ensures { MatchOption result (Isnt written Sound line.now) (λ x. Is written Sound line.now (meant x)) }
+    ensures reads { MatchOption result (Isnt written Sound line.now) (λ x. Is written Sound line.now (meant x)) }
 {
     let (letter, rest) = line.split_first()?;
     match letter {
