@@ -107,6 +107,13 @@ impl<'a, R: Keyed> Register<'a, R> {
     }
 }
 
+/// The place of the first row that has the key, in rows of any order.
+pub fn place_with<R: Keyed>(rows: &[R], key: &R::Key) -> Option<usize>
+    ensures value { result ≡ sought R.rank (R.wanted key.now) rows.now }
+{
+    rows.iter().position(|row| row.key() == *key)
+}
+
 /// The place of the row that has the key, in rows that are in order: a slice cannot carry this, so it is for our own crates alone.
 pub fn place_in_order<R: Keyed>(rows: &[R], key: &R::Key) -> Option<usize>
     requires { Ascending R.rank rows.now }
