@@ -4,6 +4,7 @@ ghost use Rattle.account.specs.Sums.{value_of};
 ghost use Rattle.account.specs.Offset.{debit, credit, fund_of, loses, owed_of, requirement_of, Law, Limits, Owable};
 
 /// The sums of the five currencies with their rates: each sum within its limit, and each debit's currency with a rate.
+// Two arrays and no pairs: a report shows the sums alone, and the rates come from the sheet as they are.
 #[derive(Clone, Copy)]
 pub struct CurrencySums {
     pub sums: [i64; 5],

@@ -53,7 +53,7 @@ fn tally<C: Charge>(
     ensures answer { result_map_both (λ s. tally figures.new s.sums) (λ f. f) result ≡ tally_on (C.Charge.meaning charge.now) account.now }
     ensures rates { IfOk result (λ s. s.rates ≡ account.now.sheet.rates.by_number) }
 {
-    let mut counts = [0; MOST_SERIES];
+    let mut counts = [0; MOST_SERIES]; // as many as may be, cut to those that are: no heap is taken
     let counts = &mut counts[..account.longs.len()];
     margin_counts(account.basis, account.longs, account.shorts, counts);
     let margined = MarginedCounts {
