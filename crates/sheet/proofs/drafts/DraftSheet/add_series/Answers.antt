@@ -1,4 +1,4 @@
-use Rattle.std.proofs.Common.{◌≡◌, true, Some, sym, refl, ◌∙◌}
+use Rattle.std.proofs.Common.{◌≡◌, true, Some, refl}
 use Rattle.std.proofs.lemmas.Result.{err_from_is_err_and}
 use Rattle.register.specs.Held.{held, lent}
 use Rattle.sheet.specs.Limits.{series_of, values_fit}
