@@ -6,22 +6,8 @@ use Rattle.std.specs.List.{range_with_len}
 use Rattle.terms.specs.declared.words.Basis.{Basis}
 use Rattle.terms.specs.declared.words.Basis.TheVariants.{Net, Gross}
 use Rattle.sheet.specs.declared.rows.Series.{Series}
-use Rattle.sheet.specs.Limits.{worth_of, Worthy}
+use Rattle.sheet.specs.Limits.{worth_of}
 use Rattle.account.specs.Pieces.{margined, margined_counts, single, pieces, mark, marks, Small, Held}
-
--- one series, and the series after it: what a loop over rows and counts has ahead of it
-pub worths_ahead : (all : List Series) (r : Series) (rows : List Series) → all ≡ r ∷ rows → Worthy all → (worth_of r ≤ 10000000) × Worthy rows
-worths_ahead all r rows e w = let h : Worthy (r ∷ rows) = rw e at w in (h 0, λ k. h (suc k))
-
-pub small_ahead : (all : List ℤ) (n : ℤ) (counts : List ℤ) → all ≡ n ∷ counts → Small all → (nat_abs n ≤ 3200000) × Small counts
-small_ahead all n counts e w = let h : Small (n ∷ counts) = rw e at w in (h 0, λ k. h (suc k))
-
-pub mark_ahead : (rows : List Series) (counts : List ℤ) (r : Series) (rs : List Series) (n : ℤ) (ns : List ℤ) → rows ≡ r ∷ rs → counts ≡ n ∷ ns → mark rows counts ≡ neg_ℤ (n *ℤ pos (worth_of r)) +ℤ mark rs ns
-mark_ahead rows counts r rs n ns p q = rw (p, q)
-
-pub mark_none : (rows : List Series) → mark rows [] ≡ pos 0
-mark_none [] = refl
-mark_none (r ∷ rows) = refl
 
 -- limits
 pub length_margined : (b : Basis) (ls ss : List ℕ) → length ls ≡ length ss → length (margined_counts b ls ss) ≡ length ls

@@ -1,5 +1,5 @@
 -- Currency sums and values are formed from the front; accepted sums lie within their limit, and a debit has a rate.
-use Rattle.std.proofs.Common.{◌≡◌, ℕ, zero, suc, ◌+◌, ◌*◌, ◌<◌, ◌≤◌, Bool, true, false, cond, List, [], ◌∷◌, length, get_or, ℤ, pos, negsuc, ◌+ℤ◌, ◌*ℤ◌, nat_abs, Ok, Err, Result, sym, refl, ap, ◌∙◌, ⊎_elim, arith}
+use Rattle.std.proofs.Common.{◌≡◌, ℕ, zero, suc, ◌<◌, ◌≤◌, Bool, true, false, cond, List, [], ◌∷◌, length, get_or, ℤ, pos, negsuc, ◌+ℤ◌, ◌*ℤ◌, nat_abs, Ok, Err, Result, sym, refl, ap, ◌∙◌, ⊎_elim, arith}
 use lib.IntN.{+ℤ_idl}
 use Rattle.std.specs.List.{All as AllAt, AllByRecursion as All}
 use Rattle.std.specs.Prelude.{IsTrue}
@@ -21,9 +21,8 @@ use Rattle.terms.specs.declared.words.Refusal.TheVariants.{TooLarge}
 use Rattle.terms.specs.declared.words.Layer.TheVariants.{Account}
 use Rattle.terms.specs.Faults.{refused}
 use Rattle.account.specs.Outcomes.{beyond, bounded, and_then, onto, each}
-use Rattle.account.specs.Figures.{Bounded}
 use Rattle.account.specs.Sums.{currencies, currency_at, same_currency, sum_of, currency_too_large, currency_sum, sums_of, value_of}
-use Rattle.account.specs.Offset.{debit, credit, fund_of, Limits}
+use Rattle.account.specs.Offset.{debit, credit, Limits}
 use Rattle.account.proofs.Outcomes.{never}
 
 -- equal currencies are those of one number
@@ -37,17 +36,6 @@ tagged Rmb = refl
 pub same_is : (a b : Currency) → sameb the_type a b ≡ same_currency a b
 same_is a b = rw (tagged a, tagged b)
 
--- one class figure, and the figures after it: what the loop over classes and figures has ahead of it
-pub bounded_ahead : (all : List ℤ) (z : ℤ) (zs : List ℤ) → all ≡ z ∷ zs → Bounded all → (nat_abs z ≤ 12900000000000) × Bounded zs
-bounded_ahead all z zs e w = let h : Bounded (z ∷ zs) = rw e at w in (h 0, λ k. h (suc k))
-
-pub sum_ahead : (c : Currency) (ks : List ClassRow) (zs : List ℤ) (r : ClassRow) (rs : List ClassRow) (x : ℤ) (xs : List ℤ) → ks ≡ r ∷ rs → zs ≡ x ∷ xs → sum_of c ks zs ≡ cond (same_currency r.currency c) x (pos 0) +ℤ sum_of c rs xs
-sum_ahead c ks zs r rs x xs p q = rw (p, q)
-
-pub sum_none : (c : Currency) (ks : List ClassRow) → sum_of c ks [] ≡ pos 0
-sum_none c [] = refl
-sum_none c (k ∷ ks) = refl
-
 -- one currency, and the currencies after it: what a loop over sums and rates has ahead of it
 module _ (all : List ℤ) (rates : List ℕ) (s : ℤ) (ss : List ℤ) (r : ℕ) (rs : List ℕ) (first : all ≡ s ∷ ss) (second : rates ≡ r ∷ rs) where
   pub limits_ahead : Limits all rates → Limits ss rs
@@ -60,9 +48,6 @@ module _ (all : List ℤ) (rates : List ℕ) (s : ℤ) (ss : List ℤ) (r : ℕ)
 
   pub value_ahead : value_of all rates ≡ s *ℤ pos r +ℤ value_of ss rs
   value_ahead = rw (first, second)
-
-  pub fund_ahead : fund_of all rates ≡ credit s * r + fund_of ss rs
-  fund_ahead = rw (first, second)
 
 pub value_none : (ss : List ℤ) → value_of ss [] ≡ pos 0
 value_none [] = refl
