@@ -57,6 +57,7 @@ impl CurrencySums {
         ensures value { result ≡ value_of self.now.sums self.now.rates }
         ensures bound { unsigned_abs result ≤ 100000000000000000 }
     {
+        // A loop: where it starts stands written, and is what the gate's edit of it turns.
         let mut value = 0;
         for (&sum, &rate) in self.sums.iter().zip(&self.rates) {
             value += value_line(sum, rate);

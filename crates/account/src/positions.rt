@@ -40,7 +40,7 @@ fn gross_amounts<C: Charge>(charge: &C, position: &Position) -> Result<i64, Faul
     ensures bound { IfOk result (λ z. unsigned_abs z ≤ 12800000000000) }
     ensures answer { result ≡ amounts (C.Charge.meaning charge.now) (plain position.now.class.now) (pieces Gross position.now.counts.now) }
 {
-    let mut piece = [0; MOST_SERIES];
+    let mut piece = [0; MOST_SERIES]; // cut to the series of the class: no heap is taken
     let piece = &mut piece[..position.counts.len()];
     let mut total = 0;
     for (i, &count) in position.counts.iter().enumerate() {

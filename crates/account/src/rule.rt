@@ -69,7 +69,7 @@ fn tally<C: Charge>(
 }
 
 /// Margins one account and fills its report; a refusal leaves the report as it was.
-// It fills a place of the caller's, as memory is lent everywhere here; what the place holds at a refusal is promised too.
+// It fills a place of the caller's: what stands there after a refusal is promised (the clause `after`).
 pub fn margin_account<C: Charge>(
     charge: &C,
     account: &Account,
@@ -82,7 +82,7 @@ pub fn margin_account<C: Charge>(
     ensures bound { OnOk result (report.new.requirement ≤ 100000000000000000) }
 {
     let classes = account.sheet.class_count();
-    let mut class_figures = [0; MOST_CLASSES];
+    let mut class_figures = [0; MOST_CLASSES]; // cut to the classes that are, as the counts in `tally`
     let totals = tally(charge, account, &mut class_figures[..classes])?;
     let sums = totals.sums;
     let Offset { owed, requirement } = totals.offset();

@@ -36,7 +36,7 @@ impl Charge for Scanning {
     fn amount(&self, class: &Class, counts: &[i64]) -> Result<i64, Fault> {
         let position = Position::judged(class, counts, Label::Scanning)?;
         let worst = (0..16).map(|k| position.loss(k)).fold(0, i64::max);
-        limited(worst as u64, Label::Scanning)
+        limited(worst as u64, Label::Scanning) // the fold begins at 0, so nothing is lost
     }
 
     fn allowance(&self, class: &Class, one: &[i64], other: &[i64]) -> Result<i64, Fault> {

@@ -41,7 +41,7 @@ pub fn draw_up<C: Charge>(charge: &C, book: &Book) -> Result<Statements, Fault> 
     let mut statements = Statements::new();
     // Opening numbers are counted, as the rows stand in order of name.
     for k in 0..book.account_count() {
-        // Asked for by its number twice: the row says through which side it settles, `margin_nth` what it owes.
+        // By its number twice, since what `margin_nth` answers is the report of the k-th account; below the count both are there.
         if let (Some(row), Some(answer)) = (book.account(k), margin_nth(charge, book, k)) {
             let owed = answer?.owed;
             statements.push(Statement {

@@ -51,7 +51,7 @@ pub record Entry {R : Type 0} (rank : R → List ℕ) (limit : ℕ) (old xs : Li
   pub count : length new ≡ counted r (length old)
   pub most : length old ≤ limit → length new ≤ limit
 
--- what a search of rows in order says: the row at its place has the key and no other place is right, and nothing says that none has it
+-- what a search of rows in order says: the row that it finds has the key; where it finds none, no row has it; and a row that has it is the one that is found
 pub record Found {R : Type 0} (rank : R → List ℕ) (k : List ℕ) (rows : List R) (r : Option ℕ) : Type 0 where
   pub some : (i : ℕ) (d : R) → r ≡ Some i → (i < length rows) × (rank (slice_index_or rows i d) ≡ k)
   pub none : (i : ℕ) (d : R) → r ≡ None → i < length rows → rank (slice_index_or rows i d) ≢ k

@@ -108,6 +108,7 @@ impl<'a, R: Keyed> Register<'a, R> {
 }
 
 /// The place of the first row that has the key, in rows of any order.
+// Nothing here calls it: it stands for who has rows in no order, and asks nothing of them.
 pub fn place_with<R: Keyed>(rows: &[R], key: &R::Key) -> Option<usize>
     ensures value { result ≡ sought R.rank (R.wanted key.now) rows.now }
 {

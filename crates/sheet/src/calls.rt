@@ -40,7 +40,7 @@ impl<'a> DraftSheet<'a> {
         Ok(())
     }
 
-    // Four parts and no struct of them: a class is told to this call alone, where a series is told to two.
+    // Four parts and no struct of them: a class is told to this call and to the maker of its row alone, a series to two calls.
 
     /// Puts a class in; refused: beyond its limits (3), its code there (4), its currency not on the sheet (5), no room (6).
     pub fn add_class(
@@ -66,7 +66,7 @@ impl<'a> DraftSheet<'a> {
     pub fn judge_series(&self, listing: Listing) -> Result<(), Fault>
         ensures value { refusal result ≡ line_fault (view self.now) listing }
     {
-        let row = series_row(&listing, [0; 16])?; // its own lines judge the array
+        let row = series_row(&listing, [0; 16])?; // zeros for the array, which its own lines judge: a maker without one would repeat these tests
         self.judge_key(&row.key)?;
         if !self.series.has_room(MOST_SERIES) {
             return Err(Fault::new(Refusal::Full, Layer::Book));
