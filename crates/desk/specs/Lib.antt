@@ -1,2 +1,3 @@
 pub mod Clerks
 pub mod Reports
+pub mod Dealings

@@ -1,4 +1,8 @@
 //! The lines after E: they deal on the book and bring collateral.
+ghost use Rattle.terms.specs.Faults.{refusal};
+ghost use Rattle.book.specs.View.{view};
+ghost use Rattle.desk.specs.Dealings.{Dealt};
+
 use crate::clerk::Desk;
 use book::books::Book;
 use collateral::ledger::Ledger;
@@ -18,10 +22,11 @@ impl<'b, 's, 'a> BookDesk<'b, 's, 'a> {
     pub fn new(book: &'b mut Book<'s, 'a>, ledger: &'b mut Ledger) -> BookDesk<'b, 's, 'a> {
         BookDesk { book, ledger }
     }
-}
 
-impl<'b, 's, 'a> Desk for BookDesk<'b, 's, 'a> {
-    fn judge(&mut self, _section: Section, rec: Record<'_>) -> Result<(), Fault> {
+    /// Takes a record to the one call that it stands for.
+    fn deal(&mut self, rec: Record<'_>) -> Result<(), Fault>
+        ensures dealt { Dealt rec.entry (view self.old.book.now) self.old.ledger.now.rates.by_number self.old.ledger.now.records (refusal result) (view self.new.book.now) self.new.ledger.now.records }
+    {
         match rec {
             Record::Account { name, basis, side } => self.book.open(name, basis, side),
             Record::Post {
@@ -53,5 +58,11 @@ impl<'b, 's, 'a> Desk for BookDesk<'b, 's, 'a> {
             // E, and what `step` has refused already.
             _ => Ok(()),
         }
+    }
+}
+
+impl<'b, 's, 'a> Desk for BookDesk<'b, 's, 'a> {
+    fn judge(&mut self, _section: Section, rec: Record<'_>) -> Result<(), Fault> {
+        self.deal(rec)
     }
 }
