@@ -1,3 +1,5 @@
 pub mod Clerks
 pub mod Reports
 pub mod Dealings
+pub mod Halves
+pub mod Listings
