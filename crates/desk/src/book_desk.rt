@@ -62,6 +62,8 @@ impl<'b, 's, 'a> BookDesk<'b, 's, 'a> {
 }
 
 impl<'b, 's, 'a> Desk for BookDesk<'b, 's, 'a> {
+    ghost judged = { λ d section rec o e. Dealt rec (view d.book.now) d.ledger.now.rates.by_number d.ledger.now.records o (view e.book.now) e.ledger.now.records };
+
     fn judge(&mut self, _section: Section, rec: Record<'_>) -> Result<(), Fault> {
         self.deal(rec)
     }

@@ -1,9 +1,12 @@
 //! What every line goes through: its form, its turn, the call that it stands for, and its number.
-ghost use Rattle.std.specs.Prelude.{◌≡◌, ◌<◌, OnOk, OnErr, IfOk, IfErr, Some as Just};
+ghost use Rattle.std.specs.Prelude.{◌≡◌, ◌<◌, Option, OnOk, OnErr, IfOk, IfErr, Some as Just};
 ghost use Rattle.lines.specs.Turns.{counted};
 ghost use Rattle.lines.specs.Columns.{Isnt};
 ghost use Rattle.lines.specs.Records.{Sound, written};
-ghost use Rattle.terms.specs.Faults.{refused, with_line};
+ghost use Rattle.lines.specs.declared.reader.Section.{Section};
+ghost use Rattle.lines.specs.declared.record.Record.{Record};
+ghost use Rattle.terms.specs.declared.faults.Fault.{Fault};
+ghost use Rattle.terms.specs.Faults.{refusal, refused, with_line};
 ghost use Rattle.terms.specs.declared.words.Layer.TheVariants.{Line as OfLine};
 ghost use Rattle.terms.specs.declared.words.Refusal.TheVariants.{BadLine as NoForm, Turn as OutOfTurn};
 ghost use Rattle.desk.specs.Clerks.{numbered};
@@ -18,8 +21,12 @@ pub const LINE_LIMIT: u32 = 1_000_000;
 
 /// What takes the records of one part of the input to their calls.
 pub trait Desk {
+    /// What a record of a section does: the desk before it, the fault, and the desk after it.
+    ghost judged: { Self → Section → Record → Option Fault → Self → Type 0 };
+
     /// Takes a record that is due in a section to the call that it stands for.
-    fn judge(&mut self, section: Section, rec: Record<'_>) -> Result<(), Fault>;
+    fn judge(&mut self, section: Section, rec: Record<'_>) -> Result<(), Fault>
+        ensures judged { judged self.old section rec.entry (refusal result) self.new };
 }
 
 /// Reads lines and takes their records to a desk.

@@ -130,6 +130,8 @@ impl<'b, 'a> SheetDesk<'b, 'a> {
 }
 
 impl<'b, 'a> Desk for SheetDesk<'b, 'a> {
+    ghost judged = { λ d section rec o e. Written section rec (view d.draft.now) d.pending o (view e.draft.now) e.pending };
+
     fn judge(&mut self, section: Section, rec: Record<'_>) -> Result<(), Fault> {
         self.write(section, rec)
     }
