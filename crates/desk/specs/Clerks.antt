@@ -1,8 +1,13 @@
--- The number of a line in its answer, and the line that no input may have.
-use Rattle.std.specs.Prelude.{ℕ, Bool, ◌||◌, nat_lt, if◌then◌else◌, Ok, Err, Result}
+-- What a clerk answers to a line; the number of a line in its answer, and the line that no input may have.
+use Rattle.std.specs.Prelude.{◌≡◌, ℕ, List, Option, Some, None, Bool, ◌||◌, nat_lt, if◌then◌else◌, Ok, Err, Result}
+use Rattle.lines.specs.Columns.{Is, Isnt}
+use Rattle.lines.specs.Records.{Sound, meant, written}
+use Rattle.lines.specs.Turns.{counted, turn}
 use Rattle.lines.specs.declared.reader.Reader.{Reader}
+use Rattle.lines.specs.declared.reader.Section.{Section}
+use Rattle.lines.specs.declared.record.Record.{Record}
 use Rattle.terms.specs.declared.faults.Fault.{Fault}
-use Rattle.terms.specs.declared.words.Refusal.TheVariants.{Full}
+use Rattle.terms.specs.declared.words.Refusal.TheVariants.{BadLine, Turn, Full}
 use Rattle.terms.specs.declared.words.Layer.TheVariants.{Line}
 use Rattle.terms.specs.Faults.{refused, with_line}
 use Rattle.terms.specs.Words.{refusal_number}
@@ -15,3 +20,11 @@ stands n f = nat_lt n 1000000 || nat_lt (refusal_number f.refusal) (refusal_numb
 abbrev pub numbered : ℕ → Result Reader Fault → Result Reader Fault
 numbered n (Ok r) = if nat_lt n 1000000 then Ok r else Err (with_line n (refused Full Line))
 numbered n (Err f) = Err (with_line n (if stands n f then f else refused Full Line))
+
+-- A line that is no record's form is refused 1, one that is not due 2, and else it is judged by the desk: a fault is handed up, and
+-- otherwise the reader goes on. Only the desk's judging alters the desk.
+pub data Answers {D : Type 0} (judged : D → Section → Record → Option Fault → D → Type 0) (line : List ℕ) (reader : Reader) (d : D) (r : Result Reader Fault) (e : D) : Type 0 where
+  formless : Isnt written Sound line → r ≡ Err (refused BadLine Line) → e ≡ d → Answers judged line reader d r e
+  undue : (rec : Record) → Is written Sound line (meant rec) → turn reader.section rec ≡ None → r ≡ Err (refused Turn Line) → e ≡ d → Answers judged line reader d r e
+  faulty : (rec : Record) (next : Section) (f : Fault) → Is written Sound line (meant rec) → turn reader.section rec ≡ Some next → judged d reader.section rec (Some f) e → r ≡ Err f → Answers judged line reader d r e
+  taken : (rec : Record) (next : Section) → Is written Sound line (meant rec) → turn reader.section rec ≡ Some next → judged d reader.section rec None e → r ≡ Ok (record { section = next; line = counted reader.line }) → Answers judged line reader d r e

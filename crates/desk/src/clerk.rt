@@ -9,7 +9,7 @@ ghost use Rattle.terms.specs.declared.faults.Fault.{Fault};
 ghost use Rattle.terms.specs.Faults.{refusal, refused, with_line};
 ghost use Rattle.terms.specs.declared.words.Layer.TheVariants.{Line as OfLine};
 ghost use Rattle.terms.specs.declared.words.Refusal.TheVariants.{BadLine as NoForm, Turn as OutOfTurn};
-ghost use Rattle.desk.specs.Clerks.{numbered};
+ghost use Rattle.desk.specs.Clerks.{Answers, numbered};
 
 use lines::reader::{Reader, Section};
 use lines::record::{Record, read_line};
@@ -66,6 +66,7 @@ impl<D: Desk> Clerk<D> {
 
     /// Where the reader stands after a line: 1 where it is no form, 2 where it is not due, else as its call answers.
     fn answer(&mut self, line: &[u8]) -> Result<Reader, Fault>
+        ensures answers { Answers D.judged line.now self.old.reader self.old.desk result self.new.desk }
         ensures no_form { Isnt written Sound line.now → result ≡ Err (refused NoForm OfLine) }
         ensures stays { self.new.reader ≡ self.old.reader }
         ensures counts { IfOk result (λ reader. reader.line ≡ counted self.old.reader.line) }
