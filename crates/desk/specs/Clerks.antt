@@ -1,5 +1,5 @@
 -- What a clerk answers to a line; the number of a line in its answer, and the line that no input may have.
-use Rattle.std.specs.Prelude.{◌≡◌, ℕ, List, Option, Some, None, Bool, ◌||◌, nat_lt, if◌then◌else◌, Ok, Err, Result}
+use Rattle.std.specs.Prelude.{◌≡◌, ℕ, List, Option, Some, None, Bool, ◌||◌, nat_lt, if◌then◌else◌, Ok, Err, Result, MatchResult}
 use Rattle.lines.specs.Columns.{Is, Isnt}
 use Rattle.lines.specs.Records.{Sound, meant, written}
 use Rattle.lines.specs.Turns.{counted, turn}
@@ -28,3 +28,9 @@ pub data Answers {D : Type 0} (judged : D → Section → Record → Option Faul
   undue : (rec : Record) → Is written Sound line (meant rec) → turn reader.section rec ≡ None → r ≡ Err (refused Turn Line) → e ≡ d → Answers judged line reader d r e
   faulty : (rec : Record) (next : Section) (f : Fault) → Is written Sound line (meant rec) → turn reader.section rec ≡ Some next → judged d reader.section rec (Some f) e → r ≡ Err f → Answers judged line reader d r e
   taken : (rec : Record) (next : Section) → Is written Sound line (meant rec) → turn reader.section rec ≡ Some next → judged d reader.section rec None e → r ≡ Ok (record { section = next; line = counted reader.line }) → Answers judged line reader d r e
+
+-- A line is taken or refused: its answer takes the line's number, and the reader goes on only where it is taken.
+pub record Takes {D : Type 0} (judged : D → Section → Record → Option Fault → D → Type 0) (line : List ℕ) (reader : Reader) (d : D) (r : Result Unit Fault) (reader' : Reader) (e : D) : Type 0 where
+  pub answer : Result Reader Fault
+  pub answered : Answers judged line reader d answer e
+  pub told : MatchResult r (λ _. numbered (counted reader.line) answer ≡ Ok reader') (λ f. (numbered (counted reader.line) answer ≡ Err f) × (reader' ≡ reader))

@@ -9,7 +9,7 @@ ghost use Rattle.terms.specs.declared.faults.Fault.{Fault};
 ghost use Rattle.terms.specs.Faults.{refusal, refused, with_line};
 ghost use Rattle.terms.specs.declared.words.Layer.TheVariants.{Line as OfLine};
 ghost use Rattle.terms.specs.declared.words.Refusal.TheVariants.{BadLine as NoForm, Turn as OutOfTurn};
-ghost use Rattle.desk.specs.Clerks.{Answers, numbered};
+ghost use Rattle.desk.specs.Clerks.{Answers, Takes, numbered};
 
 use lines::reader::{Reader, Section};
 use lines::record::{Record, read_line};
@@ -46,6 +46,7 @@ impl<D: Desk> Clerk<D> {
 
     /// Takes one line, or refuses it with its number.
     pub fn take(&mut self, line: &[u8]) -> Result<(), Fault>
+        ensures takes { Takes D.judged line.now self.old.reader self.old.desk result self.new.reader self.new.desk }
         ensures no_form { Isnt written Sound line.now → result ≡ Err (with_line (counted self.old.reader.line) (refused NoForm OfLine)) }
         ensures counts { OnOk result (self.new.reader.line ≡ counted self.old.reader.line) }
         ensures limit { OnOk result (self.new.reader.line < LINE_LIMIT) }
