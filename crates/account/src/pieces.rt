@@ -33,7 +33,7 @@ fn margined_count(basis: Basis, long: u32, short: u32) -> i64
     }
 }
 
-/// Fills a place with the margined counts of all series.
+/// Fills a place with the margined counts of all series. For our own account rule: plain slices cannot carry that they are as long.
 pub fn margin_counts(basis: Basis, longs: &[u32], shorts: &[u32], counts: &mut [i64])
     requires longs { length longs.now ≡ length counts.old }
     requires shorts { length shorts.now ≡ length counts.old }

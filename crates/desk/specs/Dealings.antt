@@ -23,6 +23,10 @@ abbrev pub brought : List ℕ → List (List Collateral) → Side → ℤ → Op
 brought rates rs s z None = rs
 brought rates rs s z (Some c) = deposit_after (deposit_fault rates rs s c z) rs s c z
 
+-- nothing is refused and nothing altered
+abbrev pub Untouched : State → List (List Collateral) → Option Fault → State → List (List Collateral) → Type 0
+Untouched s rs o t rs' = (o ≡ None) × (t ≡ s) × (rs' ≡ rs)
+
 -- a line's record, the book and the records of collateral before it, its fault, and both after it
 abbrev pub Dealt : Record → State → List ℕ → List (List Collateral) → Option Fault → State → List (List Collateral) → Type 0
 Dealt (Account n b d) s rates rs o t rs' = Step s (Opening n.now b d) o t × (rs' ≡ rs)
@@ -30,8 +34,8 @@ Dealt (Post n k l z) s rates rs o t rs' = Step s (Posting n.now k l z) o t × (r
 Dealt (CloseOut n k z) s rates rs o t rs' = Step s (Closing n.now k z) o t × (rs' ≡ rs)
 Dealt (Move a b k l z) s rates rs o t rs' = Step s (Moving a.now b.now k l z) o t × (rs' ≡ rs)
 Dealt (Deposit d c z) s rates rs o t rs' = (o ≡ brought_fault rates rs d z (currency_of c)) × (t ≡ s) × (rs' ≡ brought rates rs d z (currency_of c))
-Dealt (Class a b c d) s rates rs o t rs' = (o ≡ None) × (t ≡ s) × (rs' ≡ rs)
-Dealt (Series a b c d) s rates rs o t rs' = (o ≡ None) × (t ≡ s) × (rs' ≡ rs)
-Dealt (Array zs) s rates rs o t rs' = (o ≡ None) × (t ≡ s) × (rs' ≡ rs)
-Dealt (Rate c z) s rates rs o t rs' = (o ≡ None) × (t ≡ s) × (rs' ≡ rs)
-Dealt End s rates rs o t rs' = (o ≡ None) × (t ≡ s) × (rs' ≡ rs)
+Dealt (Class a b c d) s rates rs o t rs' = Untouched s rs o t rs'
+Dealt (Series a b c d) s rates rs o t rs' = Untouched s rs o t rs'
+Dealt (Array zs) s rates rs o t rs' = Untouched s rs o t rs'
+Dealt (Rate c z) s rates rs o t rs' = Untouched s rs o t rs'
+Dealt End s rates rs o t rs' = Untouched s rs o t rs'

@@ -6,14 +6,14 @@ ghost use Rattle.lines.specs.Fields.{Alien, Cut, Front, number_field, number_or_
 ghost use Rattle.std.specs.Fmt.{signed_decimal};
 
 /// A blank and a field of a width, and what follows.
-pub fn field_at(s: &[u8], width: usize) -> Option<(&[u8], &[u8])>
+pub(crate) fn field_at(s: &[u8], width: usize) -> Option<(&[u8], &[u8])>
     ensures { MatchOption result (Alien (plain_field width) s.now) (λ p. Front (plain_field width) s.now p.0.now p.1.now) }
 {
     s.strip_prefix(b" ")?.split_at_checked(width)
 }
 
 /// The end of a line: its line feed, and nothing behind it.
-pub fn ended(s: &[u8]) -> Option<()>
+pub(crate) fn ended(s: &[u8]) -> Option<()>
     ensures { MatchOption result (s.now ≢ 10 ∷ []) (λ _. s.now ≡ 10 ∷ []) }
 {
     (s == b"\n".as_slice()).then_some(())
@@ -88,7 +88,7 @@ impl Field<'_> {
 
 /// A blank and a number at the right of a width, and what follows.
 #[inline]
-pub fn number_at(s: &[u8], width: usize) -> Option<(i64, &[u8])>
+pub(crate) fn number_at(s: &[u8], width: usize) -> Option<(i64, &[u8])>
     requires { width ≤ 13 }
     ensures { Cut (number_field width) s.now result }
 {
@@ -97,7 +97,7 @@ pub fn number_at(s: &[u8], width: usize) -> Option<(i64, &[u8])>
 }
 
 /// A blank and a width that holds a number or is all blank, and what follows.
-pub fn number_or_blank_at(s: &[u8], width: usize) -> Option<(Option<i64>, &[u8])>
+pub(crate) fn number_or_blank_at(s: &[u8], width: usize) -> Option<(Option<i64>, &[u8])>
     requires { width ≤ 13 }
     ensures { Cut (number_or_blank_field width) s.now result }
 {

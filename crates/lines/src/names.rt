@@ -26,7 +26,7 @@ fn name_of(field: &[u8]) -> Option<&[u8]>
 }
 
 /// A blank and a name, and what follows.
-pub fn name_at(s: &[u8]) -> Option<(&[u8], &[u8])>
+pub(crate) fn name_at(s: &[u8]) -> Option<(&[u8], &[u8])>
     ensures { MatchOption result (Alien name_field s.now) (λ p. Front name_field s.now p.0.now p.1.now) }
 {
     let (field, rest) = field_at(s, 20)?;

@@ -8,7 +8,7 @@ use terms::letters::Lettered;
 use terms::words::Kind;
 
 /// A blank and a code of three capitals, and what follows.
-pub fn code_at(s: &[u8]) -> Option<(Code, &[u8])>
+pub(crate) fn code_at(s: &[u8]) -> Option<(Code, &[u8])>
     ensures { Cut code_field s.now result }
 {
     let [b' ', first, second, third, rest @ ..] = s else {
@@ -23,7 +23,7 @@ pub fn code_at(s: &[u8]) -> Option<(Code, &[u8])>
 }
 
 /// A blank and the letter of a word, and what follows.
-pub fn word_at<W: Lettered>(s: &[u8]) -> Option<(W, &[u8])>
+pub(crate) fn word_at<W: Lettered>(s: &[u8]) -> Option<(W, &[u8])>
     ensures { Cut (letter_field W.letter) s.now result }
 {
     match s {
@@ -33,7 +33,7 @@ pub fn word_at<W: Lettered>(s: &[u8]) -> Option<(W, &[u8])>
 }
 
 /// The key of a series, and what follows.
-pub fn key_at(s: &[u8]) -> Option<(AskedKey, &[u8])>
+pub(crate) fn key_at(s: &[u8]) -> Option<(AskedKey, &[u8])>
     ensures { Cut key_field s.now result }
 {
     let (class, s) = code_at(s)?;

@@ -18,7 +18,7 @@ const OMNIBUS: usize = 0;
 
 const HOUSE: usize = 1;
 
-pub fn show_accounts(rt: &HostRuntime) -> io::Result<()> {
+pub(crate) fn show_accounts(rt: &HostRuntime) -> io::Result<()> {
     let mut classes = [CLASS; 2];
     let mut series = [SERIES; 3];
     let mut draft = DraftSheet::new(&mut classes, &mut series);

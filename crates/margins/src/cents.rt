@@ -24,7 +24,7 @@ const RMC: Code = Code {
     third: b'C',
 };
 
-pub fn show_cents(rt: &HostRuntime) -> io::Result<()> {
+pub(crate) fn show_cents(rt: &HostRuntime) -> io::Result<()> {
     let mut classes = [CLASS; 2];
     let mut series = [SERIES; 2];
     let mut draft = DraftSheet::new(&mut classes, &mut series);

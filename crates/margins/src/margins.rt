@@ -19,7 +19,7 @@ pub struct Wanted {
 }
 
 /// Margins the account that was opened as the k-th and prints its figures.
-pub fn show_margin<C: Charge>(
+pub(crate) fn show_margin<C: Charge>(
     rt: &HostRuntime,
     what: &str,
     charge: &C,
