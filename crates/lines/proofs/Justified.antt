@@ -14,7 +14,7 @@ text_of f = drop (blanks f) f
 at_right : (f : List ℕ) → f ≡ right (length f) (text_of f)
 at_right f = let m : length f - length (text_of f) ≡ blanks f = omega (arith, length-drop (blanks f) f, prefix_len-le-length (λ b. eqb b 32) f) in rw m (blanks-drop f)
 
-in_column : (f : List ℕ) (z : ℤ) → Within z → f ≡ column (length f) z → text_of f ≡ signed_decimal z
+pub in_column : (f : List ℕ) (z : ℤ) → Within z → f ≡ column (length f) z → text_of f ≡ signed_decimal z
 in_column f z h e =
     let n = length f - length (signed_decimal z) in
     ap text_of e ∙ drop_at (replicate n 32) (signed_decimal z) (blanks (column (length f) z)) (length-replicate n 32 ∙ sym (blanks-append n (signed_decimal z) (some z h) (no_blank z h)))

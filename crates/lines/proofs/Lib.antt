@@ -1,9 +1,11 @@
 pub mod Fields
+pub mod Fronts
 pub mod Blanks
 pub mod Decimal
 pub mod Numerals
 pub mod Justified
 pub mod Trims
 pub mod Rows
+pub mod Laws
 pub mod Printed
 pub mod Bytes

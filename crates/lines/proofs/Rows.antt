@@ -3,6 +3,7 @@ use Rattle.std.proofs.Common.{◌≡◌, ℕ, zero, suc, ◌+◌, ◌<◌, ◌�
 use Rattle.std.proofs.lemmas.List.{length_push, take_more, drop_more, take_all, drop_all}
 use Rattle.lines.specs.Columns.{Is, Isnt, Fits, column, laid}
 use Rattle.lines.specs.Fields.{Front, Alien, number_field}
+use Rattle.lines.proofs.Fronts.{number_front}
 use Rattle.lines.specs.Records.{Entry, array, AllFit, Sound, body, Of}
 
 -- values, a blank before each, and what follows
@@ -35,6 +36,18 @@ pub record Rows (s : List ℕ) (zs : List ℤ) (t : List ℕ) : Type 0 where
 
 pub rows_none : (s : List ℕ) → Rows s [] s
 rows_none s = record { fit = tt; reads = refl; only = λ ys u f l e. (refl, e) }
+
+-- values stand at the front of their own texts
+rows_only : (zs : List ℤ) (t : List ℕ) → AllFit zs → (ys : List ℤ) (u : List ℕ) → AllFit ys → length zs ≤ length ys → rows zs t ≡ rows ys u → (take (length zs) ys ≡ zs) × (t ≡ rows (drop (length zs) ys) u)
+rows_only [] t f ys u g l e = (refl, e)
+rows_only (z ∷ zs) t f [] u g l e = absurd (omega arith)
+rows_only (z ∷ zs) t f (y ∷ ys) u g l e =
+    let p = (number_front 9 z (rows zs t) f.0).only y (rows ys u) g.0 e in
+    let q = rows_only zs t f.1 ys u g.1 (omega arith) (sym p.1) in
+    (cc (p.0, q.0), q.1)
+
+rows_front : (zs : List ℤ) (t : List ℕ) → AllFit zs → Rows (rows zs t) zs t
+rows_front zs t f = record { fit = f; reads = refl; only = rows_only zs t f }
 
 module _ {s : List ℕ} {zs : List ℤ} {t : List ℕ} (p : Rows s zs t) where
   -- the value that comes next
@@ -78,3 +91,6 @@ module _ {s : List ℕ} {zs : List ℤ} {t : List ℕ} (p : Rows s zs t) where
 
   pub rows_are : length zs ≡ 8 → t ≡ 10 ∷ [] → Is body (Of 82) s (array zs)
   rows_are l z = record { fit = ((l, p.fit), refl); reads = p.reads ∙ ap (rows zs) z ∙ sym (laid-rows zs); only = λ e o q. (all e o q l).0 }
+
+pub array_is : (zs : List ℤ) → Sound (array zs) → Is body (Of 82) (body (array zs)) (array zs)
+array_is zs f = rw (laid-rows zs) (rows_are (rows_front zs (10 ∷ []) f.1) f.0 refl)

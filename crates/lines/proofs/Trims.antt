@@ -21,7 +21,7 @@ text_of f = take (length f - blanks_behind f) f
 at_left : (f : List ℕ) → length f ≡ 20 → length (text_of f) ≤ 20 → f ≡ left 20 (text_of f)
 at_left f l m = let n : 20 - length (text_of f) ≡ blanks_behind f = omega (arith, ap length (take-blanks f), length-append (text_of f) (replicate (blanks_behind f) 32), length-replicate {A = ℕ} (blanks_behind f) 32) in rw n (take-blanks f)
 
-in_left : (f t : List ℕ) → Spelled t → f ≡ left 20 t → text_of f ≡ t
+pub in_left : (f t : List ℕ) → Spelled t → f ≡ left 20 t → text_of f ≡ t
 in_left f t h e =
     let n = 20 - length t in
     let l : length f - blanks_behind f ≡ length t =
