@@ -1,10 +1,15 @@
--- No two records have one written form.
-use Rattle.std.proofs.Common.{◌≡◌, ℕ, List, drop, sym, arith}
-use Rattle.lines.specs.Columns.{laid}
-use Rattle.lines.specs.Laws.{OneRecord}
+-- The laws of the written form.
+use Rattle.std.proofs.Common.{◌≡◌, ℕ, List, drop, Some, refl, sym, arith}
+use Rattle.std.proofs.lemmas.List.{take_at}
+use Rattle.terms.specs.declared.words.Basis.{Basis}
+use Rattle.terms.specs.declared.words.Side.{Side}
+use Rattle.terms.specs.Names.{named}
+use Rattle.lines.specs.Columns.{Is, laid, left}
+use Rattle.lines.specs.Laws.{OneRecord, OneAccount, name_columns}
 use Rattle.lines.specs.Records.{Entry, Sound, written, letter, body, fields, class, account, rate, series, array, end, post, close_out, move, deposit}
 use Rattle.lines.proofs.Fronts.{number_front, or_blank_front, name_front, code_front, key_front, basis_front, leg_front, side_front}
 use Rattle.lines.proofs.Rows.{array_is}
+use Rattle.lines.proofs.Trims.{wide}
 
 -- what follows the first fields of a line
 abbrev behind : ℕ → Entry → List ℕ
@@ -71,3 +76,12 @@ same (deposit s c z) b f g e =
 
 pub one_record : OneRecord
 one_record = record { same = same }
+
+name : (l t : List ℕ) (b : Basis) (s : Side) → Is written Sound l (account t b s) → named t ≡ Some (record { text = name_columns l })
+name l t b s p = rw (p.fit, p.reads, take_at (left 20 t) (behind 1 (account t b s)) 20 (wide t p.fit)) refl
+
+pub one_account : OneAccount
+one_account = record {
+  name = name;
+  same = λ l m t u b c s d p q. let n = name l t b s p in let o = name m u c d q in (λ e. grind arith, λ e. grind arith);
+}

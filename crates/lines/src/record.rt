@@ -1,6 +1,6 @@
 //! The ten kinds of line, and the record whose written form a line is.
 ghost use Rattle.lines.specs.Columns.{Is, Isnt};
-ghost use Rattle.lines.specs.Laws.{OneRecord};
+ghost use Rattle.lines.specs.Laws.{OneAccount, OneRecord};
 ghost use Rattle.lines.specs.Records.{Says, Sound, meant, written};
 ghost use Rattle.std.specs.Prelude.{MatchOption};
 
@@ -207,10 +207,11 @@ fn read_deposit(s: &[u8]) -> Option<Record<'_>>
 }
 
 /// The record whose written form a line is, its line feed with it.
-#[tactic(auto, using(crate::proofs::Laws::one_record))]
+#[tactic(auto, using(crate::proofs::Laws::one_record, crate::proofs::Laws::one_account))]
 pub fn read_line(line: &[u8]) -> Option<Record<'_>>
     ensures reads { MatchOption result (Isnt written Sound line.now) (λ x. Is written Sound line.now (meant x)) }
     ensures one_record { OneRecord }
+    ensures one_account { OneAccount }
 {
     let (letter, rest) = line.split_first()?;
     match letter {
