@@ -1,5 +1,5 @@
 -- What a reader has left after a read, which moves bytes from the input to what is held, and after a line was handed on.
-use Rattle.std.proofs.Common.{◌≡◌, ℕ, ◌+◌, ◌-◌, ◌≤◌, List, ◌++◌, Option, None, Some, IfSome, length, take, drop, slice_range, sym, ap, ◌∙◌, append_assoc, zero-add, arith}
+use Rattle.std.proofs.Common.{◌≡◌, ◌≢◌, ℕ, ◌+◌, ◌-◌, ◌<◌, ◌≤◌, List, [], ◌++◌, Option, None, Some, IfSome, length, take, drop, slice_range, sym, ap, ◌∙◌, append_assoc, zero-add, arith}
 use Rattle.std.proofs.lemmas.List.{length-take-le, take-take, take-append-le, drop-append-le, drop-take, drop-drop, length-drop}
 use Rattle.std.proofs.lemmas.List.Edits.{take-paste}
 use Rattle.std.proofs.Math.Seq.{take-append-add}
@@ -42,13 +42,16 @@ held_rest bytes from to n within =
     let count : n + m ≡ to - from = omega arith in
     ap (take m) (sym (drop-drop n from bytes)) ∙ sym (drop-take n m (drop from bytes)) ∙ ap (λ k. drop n (take k (drop from bytes))) count
 
--- n bytes of what is held are handed on
-pub handed : (a : Option (List ℕ)) (bytes : List ℕ) (from to n : ℕ) → from + n ≤ to → IfSome a (λ xs. first_line xs ≡ take n (slice_range bytes from to))
-    → IfSome a (λ xs. slice_range bytes from (from + n) ≡ first_line xs)
-handed None bytes from to n within first = tt
-handed (Some x) bytes from to n within first =
+-- n bytes of what is held are handed on: there is a line
+pub handed : (a : Option (List ℕ)) (bytes : List ℕ) (from to n : ℕ) → 0 < n → n ≤ length (slice_range bytes from to) → from + n ≤ to → IfSome a (λ xs. first_line xs ≡ take n (slice_range bytes from to))
+    → IfSome a (λ xs. (xs ≢ []) × (slice_range bytes from (from + n) ≡ first_line xs))
+handed None bytes from to n some long within first = tt
+handed (Some x) bytes from to n some long within first =
     let count : from + n - from ≡ n = omega arith in
-    ap (λ k. take k (drop from bytes)) count ∙ sym (take-take n (to - from) (drop from bytes) (omega arith)) ∙ sym first
+    let size : length (first_line x) ≡ n = ap length first ∙ length-take-le n (slice_range bytes from to) long in (
+      λ none. absurd (omega (arith, size, ap (λ l. length (first_line l)) none)),
+      ap (λ k. take k (drop from bytes)) count ∙ sym (take-take n (to - from) (drop from bytes) (omega arith)) ∙ sym first,
+    )
 
 -- a first line of n bytes leaves the rest
 pub left : (a b : Option (List ℕ)) (held rest : List ℕ) (n : ℕ) → n ≤ length held → rest ≡ drop n held → Keeps a (prepend_known held b)

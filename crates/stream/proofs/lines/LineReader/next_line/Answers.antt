@@ -13,4 +13,4 @@ returns g c =
     let array : length s.bytes ≡ 65618 = search rules in
     let long = length-take-le (s.to - s.from) (drop s.from s.bytes) (omega (arith, length-drop s.from s.bytes, array)) in
     let rest = left _ _ (held s) _ size (omega (arith, long)) (held_rest s.bytes s.from s.to size given.within) given.keeps given.first in
-    ((refl, λ _. tt, rest), record { line = handed _ s.bytes s.from s.to size given.within given.first; rest = tt })
+    ((refl, λ _. tt, rest), record { line = handed _ s.bytes s.from s.to size given.some (omega (arith, long)) given.within given.first; failed = tt; rest = tt })
