@@ -2,12 +2,16 @@
 use Rattle.std.proofs.Common.{length, arith}
 use Rattle.register.specs.Held.{held}
 use Rattle.book.proofs.Cleared.{bounded_open}
-use Rattle.book.proofs.Slots.{one_more, numbered_more}
+use Rattle.book.proofs.Slots.{one_more, numbered_more, each_more}
 use Rattle.book.proofs.books.Book.open.Goals as goal
 
 pub invariant_of-self-2-clause-accounts_numbered : goal.invariant_of-self-2-clause-accounts_numbered
 invariant_of-self-2-clause-accounts_numbered c =
     numbered_more c.insert.ensures.entry c.in_ok-map_err.ensures.variant c.len-slot.ensures.value c.args.self.now.accounts_numbered
+
+pub invariant_of-self-2-clause-each_number : goal.invariant_of-self-2-clause-each_number
+invariant_of-self-2-clause-each_number c =
+    each_more c.insert.ensures.entry c.in_ok-map_err.ensures.variant c.len-slot.ensures.value c.args.self.now.each_number
 
 pub invariant_of-self-2-clause-bounded : goal.invariant_of-self-2-clause-bounded
 invariant_of-self-2-clause-bounded c =
