@@ -11,6 +11,7 @@ use Rattle.book.specs.State.{State}
 use Rattle.book.specs.Uses.{Opening, Posting, Closing, Moving, Step}
 use Rattle.collateral.specs.declared.records.Collateral.{Collateral}
 use Rattle.collateral.specs.Deposits.{deposit_fault, deposit_after}
+use Rattle.lines.specs.declared.reader.Section.{Section}
 use Rattle.lines.specs.declared.record.Record.{Record}
 use Rattle.lines.specs.declared.record.Record.TheVariants.{Class, Series, Array, Rate, End, Account, Post, CloseOut, Move, Deposit}
 
@@ -39,3 +40,12 @@ Dealt (Series a b c d) s rates rs o t rs' = Untouched s rs o t rs'
 Dealt (Array zs) s rates rs o t rs' = Untouched s rs o t rs'
 Dealt (Rate c z) s rates rs o t rs' = Untouched s rs o t rs'
 Dealt End s rates rs o t rs' = Untouched s rs o t rs'
+
+-- what the lines after E deal on: a book, the rates of the currencies on its sheet, and the records of collateral
+pub record Dealing : Type 0 where
+  pub book : State
+  pub rates : List ℕ
+  pub records : List (List Collateral)
+
+abbrev pub deals : Dealing → Section → Record → Option Fault → Dealing → Type 0
+deals d section rec o e = Dealt rec d.book d.rates d.records o e.book e.records × (e.rates ≡ d.rates)

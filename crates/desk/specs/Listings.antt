@@ -8,6 +8,7 @@ use Rattle.terms.specs.declared.words.Refusal.TheVariants.{Limit}
 use Rattle.terms.specs.Codes.{currency_of}
 use Rattle.terms.specs.Faults.{refused}
 use Rattle.sheet.specs.declared.rows.Listing.{Listing}
+use Rattle.sheet.specs.declared.sheets.Sheet.{Sheet as Sealed}
 use Rattle.sheet.specs.State.{State, Use, Step, line_fault, values_fault}
 use Rattle.sheet.specs.State.{Rate as AddRate, Class as AddClass, Listed as AddSeries}
 use Rattle.lines.specs.declared.reader.Section.{Section}
@@ -61,3 +62,17 @@ Written section (Post n k l z) s p o t p' = Still s p o t p'
 Written section (CloseOut n k z) s p o t p' = Still s p o t p'
 Written section (Move a b k l z) s p o t p' = Still s p o t p'
 Written section (Deposit d c z) s p o t p' = Still s p o t p'
+
+-- what the lines before E write on: a draft, and the series that waits for its array
+pub record Writing : Type 0 where
+  pub draft : State
+  pub waits : Option Pending
+
+abbrev pub writes : Writing → Section → Record → Option Fault → Writing → Type 0
+writes d section rec o e = Written section rec d.draft d.waits o e.draft e.waits
+
+-- a sheet has what its draft had when it was sealed
+pub record Seals (draft : State) (sheet : Sealed) : Type 0 where
+  pub rates : sheet.rates.by_number ≡ draft.rates
+  pub classes : sheet.classes.now ≡ draft.classes
+  pub series : sheet.series.now ≡ draft.series

@@ -1,11 +1,15 @@
--- What an account of a book comes to.
-use Rattle.std.specs.Prelude.{ℕ, Option, Result}
-use Rattle.std.specs.Option.{option_map}
+-- What an account of a book comes to, and what all of them owe.
+use Rattle.std.specs.Prelude.{ℕ, List, [], ◌∷◌, length, Ok, Option, Result, option_map, filter_map}
+use Rattle.std.specs.List.{range_with_len}
 use Rattle.terms.specs.declared.faults.Fault.{Fault}
+use Rattle.terms.specs.declared.names.Name.{Name}
 use Rattle.terms.specs.declared.words.Leg.TheVariants.{Long, Short}
+use Rattle.terms.specs.declared.words.Side.{Side}
 use Rattle.charge.specs.Meanings.{Meaning}
 use Rattle.account.specs.declared.rule.AccountReport.{AccountReport}
+use Rattle.account.specs.Outcomes.{and_then}
 use Rattle.account.specs.Rule.{account_report}
+use Rattle.collateral.specs.declared.statements.Statement.{Statement}
 use Rattle.book.specs.declared.rows.AccountRow.{AccountRow}
 use Rattle.book.specs.State.{State}
 use Rattle.book.specs.Reads.{numbered, counts_of}
@@ -17,3 +21,29 @@ row_report m s a = account_report m a.name a.basis s.rates s.classes s.series (c
 -- the report of the account that was opened as the k-th; none where fewer are open
 abbrev pub nth_report : Meaning → State → ℕ → Option (Result AccountReport Fault)
 nth_report m s k = option_map (row_report m s) (numbered k s.accounts)
+
+-- what a statement says: the account's name and side, and the cents it owes in each currency
+pub record Owes : Type 0 where
+  pub name : Name
+  pub side : Side
+  pub owed : List ℕ
+
+abbrev pub owes : Statement → Owes
+owes a = record { name = a.name; side = a.side; owed = a.owed }
+
+-- what the account of a row owes, or the fault of its report
+abbrev pub statement : Meaning → State → AccountRow → Result Owes Fault
+statement m s a = and_then (row_report m s a) (λ r. Ok (record { name = a.name; side = a.side; owed = r.owed }))
+
+-- the same of each row, or the fault of the first account that cannot be margined
+abbrev pub statement_of_each : Meaning → State → List AccountRow → Result (List Owes) Fault
+statement_of_each m s [] = Ok []
+statement_of_each m s (a ∷ rows) = and_then (statement m s a) (λ x. and_then (statement_of_each m s rows) (λ xs. Ok (x ∷ xs)))
+
+-- The accounts in opening order: the 0-th, the 1st, and so on, as many as there are. A number that no account has would be passed over.
+abbrev pub in_opening_order : List AccountRow → List AccountRow
+in_opening_order rows = filter_map (λ k. numbered k rows) (range_with_len 0 (length rows))
+
+-- the statements of a book's accounts, in opening order
+abbrev pub statements : Meaning → State → Result (List Owes) Fault
+statements m s = statement_of_each m s (in_opening_order s.accounts)

@@ -2,6 +2,6 @@
 #![tactic(auto)]
 
 pub mod book_desk;
-pub mod clerk;
+pub mod due;
 pub mod sheet_desk;
 pub mod statements;

@@ -1,8 +1,9 @@
 //! The close: what every account owes, in opening order.
-ghost use Rattle.std.specs.Prelude.{◌≡◌, ◌≤◌, IfOk, IfSome};
+ghost use Rattle.std.specs.Prelude.{◌≡◌, ◌≤◌, length, map, IfOk, IfSome};
+ghost use Rattle.std.specs.Result.{result_map_both};
 ghost use Rattle.account.specs.Offset.{Law, Owable};
 ghost use Rattle.book.specs.View.{view};
-ghost use Rattle.desk.specs.Reports.{nth_report};
+ghost use Rattle.desk.specs.Reports.{nth_report, owes, statements};
 
 use account::accounts::Account;
 use account::rule::{AccountReport, margin_account};
@@ -37,7 +38,10 @@ pub fn margin_nth<C: Charge>(
 }
 
 /// Draws up a statement for each account of the book, in opening order; the first account that cannot be margined refuses.
-pub fn draw_up<C: Charge>(charge: &C, book: &Book) -> Result<Statements, Fault> {
+pub fn draw_up<C: Charge>(charge: &C, book: &Book) -> Result<Statements, Fault>
+    ensures all { IfOk result (λ xs. length xs ≡ length (view book.now).accounts) }
+    ensures answer { result_map_both (map owes) (λ f. f) result ≡ statements (C.Charge.meaning charge.now) (view book.now) }
+{
     let mut statements = Statements::new();
     // Opening numbers are counted, as the rows stand in order of name.
     for k in 0..book.account_count() {

@@ -1,4 +1,4 @@
--- What a clerk answers to a line; the number of a line in its answer, and the line that no input may have.
+-- How a line is taken or refused: its form and its turn, what its record does, and its number.
 use Rattle.std.specs.Prelude.{◌≡◌, ℕ, List, Option, Some, None, Bool, ◌||◌, nat_lt, if◌then◌else◌, Ok, Err, Result, MatchResult}
 use Rattle.lines.specs.Columns.{Is, Isnt}
 use Rattle.lines.specs.Records.{Sound, meant, written}
@@ -21,13 +21,22 @@ abbrev pub numbered : ℕ → Result Reader Fault → Result Reader Fault
 numbered n (Ok r) = if nat_lt n 1000000 then Ok r else Err (with_line n (refused Full Line))
 numbered n (Err f) = Err (with_line n (if stands n f then f else refused Full Line))
 
--- A line that is no record's form is refused 1, one that is not due 2, and else it is judged by the desk: a fault is handed up, and
--- otherwise the reader goes on. Only the desk's judging alters the desk.
+-- a line is not due: it is no record's form, or it is not its record's turn
+pub data NotDue (line : List ℕ) (reader : Reader) (f : Fault) : Type 0 where
+  no_form : Isnt written Sound line → f ≡ refused BadLine Line → NotDue line reader f
+  no_turn : (rec : Record) → Is written Sound line (meant rec) → turn reader.section rec ≡ None → f ≡ refused Turn Line → NotDue line reader f
+
+-- a line is due: its record, and where the reader stands behind it
+pub record Due (line : List ℕ) (reader : Reader) (rec : Record) (next : Reader) : Type 0 where
+  pub form : Is written Sound line (meant rec)
+  pub turns : turn reader.section rec ≡ Some next.section
+  pub counts : next.line ≡ counted reader.line
+
+-- The record of a line that is due is judged: a fault is handed up, and otherwise the reader goes on. Only the judging alters anything.
 pub data Answers {D : Type 0} (judged : D → Section → Record → Option Fault → D → Type 0) (line : List ℕ) (reader : Reader) (d : D) (r : Result Reader Fault) (e : D) : Type 0 where
-  formless : Isnt written Sound line → r ≡ Err (refused BadLine Line) → e ≡ d → Answers judged line reader d r e
-  undue : (rec : Record) → Is written Sound line (meant rec) → turn reader.section rec ≡ None → r ≡ Err (refused Turn Line) → e ≡ d → Answers judged line reader d r e
-  faulty : (rec : Record) (next : Section) (f : Fault) → Is written Sound line (meant rec) → turn reader.section rec ≡ Some next → judged d reader.section rec (Some f) e → r ≡ Err f → Answers judged line reader d r e
-  taken : (rec : Record) (next : Section) → Is written Sound line (meant rec) → turn reader.section rec ≡ Some next → judged d reader.section rec None e → r ≡ Ok (record { section = next; line = counted reader.line }) → Answers judged line reader d r e
+  not_due : (f : Fault) → NotDue line reader f → r ≡ Err f → e ≡ d → Answers judged line reader d r e
+  faulty : (rec : Record) (next : Reader) (f : Fault) → Due line reader rec next → judged d reader.section rec (Some f) e → r ≡ Err f → Answers judged line reader d r e
+  taken : (rec : Record) (next : Reader) → Due line reader rec next → judged d reader.section rec None e → r ≡ Ok next → Answers judged line reader d r e
 
 -- A line is taken or refused: its answer takes the line's number, and the reader goes on only where it is taken.
 pub record Takes {D : Type 0} (judged : D → Section → Record → Option Fault → D → Type 0) (line : List ℕ) (reader : Reader) (d : D) (r : Result Unit Fault) (reader' : Reader) (e : D) : Type 0 where

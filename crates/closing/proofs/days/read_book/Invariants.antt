@@ -1,7 +1,0 @@
-use Rattle.std.proofs.Common.{◌-◌}
-use Rattle.desk.specs.declared.clerk.TheConstants.{LINE_LIMIT}
-use Rattle.closing.proofs.days.read_book.Given as goal
-
--- line 1,000,000 is never taken
-abbrev pub decreases-loop-line : goal.decreases-loop-line
-decreases-loop-line g l = LINE_LIMIT - l.clerk.reader.line
