@@ -10,7 +10,8 @@ use Rattle.stream.specs.declared.reading.Stop.{Stop}
 use Rattle.stream.specs.declared.reading.Stop.TheVariants.{Refused, Unread, Unwritten}
 use Rattle.desk.specs.Dealings.{Dealing, deals}
 use Rattle.desk.specs.Listings.{Writing, writes}
-use Rattle.desk.specs.Reports.{Owes, statements}
+use Rattle.collateral.specs.Requirements.{Owes}
+use Rattle.desk.specs.Reports.{statements}
 use Rattle.desk.specs.Runs.{Ran, beginning, with_input, with_sheet}
 use Rattle.closing.specs.Days.{Figures, Margined, MarginedInput, blank, closed, opening, no_sheet, no_book, margined}
 use Rattle.closing.specs.declared.days.Day.{Day}

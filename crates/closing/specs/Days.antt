@@ -12,7 +12,8 @@ use Rattle.stream.specs.declared.reading.Stop.{Stop}
 use Rattle.stream.specs.declared.reading.Stop.TheVariants.{Refused, Unread, Unwritten}
 use Rattle.desk.specs.Dealings.{Dealing, deals}
 use Rattle.desk.specs.Listings.{Writing, writes}
-use Rattle.desk.specs.Reports.{Owes, owes, statements}
+use Rattle.collateral.specs.Requirements.{Owes, owes}
+use Rattle.desk.specs.Reports.{statements}
 use Rattle.desk.specs.Runs.{Run, beginning, with_input, with_sheet}
 use Rattle.closing.specs.declared.days.Day.{Day}
 

@@ -1,7 +1,7 @@
 //! A side's requirement: what its accounts owe together.
-ghost use Rattle.std.specs.Prelude.{◌≡◌, ◌≤◌};
+ghost use Rattle.std.specs.Prelude.{◌≡◌, ◌≤◌, map};
 ghost use Rattle.collateral.specs.declared.statements.TheConstants.{OWED_LIMIT};
-ghost use Rattle.collateral.specs.Requirements.{owed_by, requirement_of};
+ghost use Rattle.collateral.specs.Requirements.{owed_by, owes, requirement_of};
 
 use crate::statements::{OWED_LIMIT, Statement, Statements};
 use terms::words::{Currency, Side};
@@ -9,7 +9,7 @@ use terms::words::{Currency, Side};
 impl Statement {
     /// What it adds to a side's requirement in a currency: what it owes, where it settles through that side.
     fn adds(&self, side: Side, currency: Currency) -> u64
-        ensures value { result ≡ owed_by side currency self.now }
+        ensures value { result ≡ owed_by side currency (owes self.now) }
         ensures bound { result ≤ OWED_LIMIT }
     {
         if self.side == side {
@@ -23,7 +23,7 @@ impl Statement {
 impl Statements {
     /// A side's requirement in a currency: the sum of what its accounts owe.
     pub fn requirement(&self, side: Side, currency: Currency) -> u64
-        ensures value { result ≡ requirement_of side currency self.now }
+        ensures value { result ≡ requirement_of side currency (map owes self.now) }
         ensures bound { result ≤ 3200000000000 }
     {
         self.as_slice()

@@ -2,14 +2,12 @@
 use Rattle.std.specs.Prelude.{ℕ, List, [], ◌∷◌, length, Ok, Option, Result, option_map, filter_map}
 use Rattle.std.specs.List.{range_with_len}
 use Rattle.terms.specs.declared.faults.Fault.{Fault}
-use Rattle.terms.specs.declared.names.Name.{Name}
 use Rattle.terms.specs.declared.words.Leg.TheVariants.{Long, Short}
-use Rattle.terms.specs.declared.words.Side.{Side}
 use Rattle.charge.specs.Meanings.{Meaning}
 use Rattle.account.specs.declared.rule.AccountReport.{AccountReport}
 use Rattle.account.specs.Outcomes.{and_then}
 use Rattle.account.specs.Rule.{account_report}
-use Rattle.collateral.specs.declared.statements.Statement.{Statement}
+use Rattle.collateral.specs.Requirements.{Owes}
 use Rattle.book.specs.declared.rows.AccountRow.{AccountRow}
 use Rattle.book.specs.State.{State}
 use Rattle.book.specs.Reads.{numbered, counts_of}
@@ -21,15 +19,6 @@ row_report m s a = account_report m a.name a.basis s.rates s.classes s.series (c
 -- the report of the account that was opened as the k-th; none where fewer are open
 abbrev pub nth_report : Meaning → State → ℕ → Option (Result AccountReport Fault)
 nth_report m s k = option_map (row_report m s) (numbered k s.accounts)
-
--- what a statement says: the account's name and side, and the cents it owes in each currency
-pub record Owes : Type 0 where
-  pub name : Name
-  pub side : Side
-  pub owed : List ℕ
-
-abbrev pub owes : Statement → Owes
-owes a = record { name = a.name; side = a.side; owed = a.owed }
 
 -- what the account of a row owes, or the fault of its report
 abbrev pub statement : Meaning → State → AccountRow → Result Owes Fault

@@ -3,7 +3,8 @@ ghost use Rattle.std.specs.Prelude.{◌≡◌, ◌≤◌, length, map, IfOk, IfS
 ghost use Rattle.std.specs.Result.{result_map_both};
 ghost use Rattle.account.specs.Offset.{Law, Owable};
 ghost use Rattle.book.specs.View.{view};
-ghost use Rattle.desk.specs.Reports.{nth_report, owes, statements};
+ghost use Rattle.collateral.specs.Requirements.{owes};
+ghost use Rattle.desk.specs.Reports.{nth_report, statements};
 
 use account::accounts::Account;
 use account::rule::{AccountReport, margin_account};

@@ -1,7 +1,8 @@
 use Rattle.std.proofs.Common.{◌≡◌, Ok, Err, map, ap, ◌∙◌}
 use Rattle.charge.specs.Meanings.{prime_meaning}
 use Rattle.desk.specs.Desks.{dealing, writing}
-use Rattle.desk.specs.Reports.{owes, statements}
+use Rattle.collateral.specs.Requirements.{owes}
+use Rattle.desk.specs.Reports.{statements}
 use Rattle.closing.proofs.Closings.{handed, sheet_refused, book_refused, is_closed, close_refused, refused_is, answered_is}
 use Rattle.closing.proofs.days.margin_day.Goals as goal
 

@@ -1,6 +1,7 @@
 use Rattle.std.proofs.Common.{◌≡◌, ◌≤◌, map, length}
 use Rattle.book.specs.View.{view}
-use Rattle.desk.specs.Reports.{owes, statements}
+use Rattle.collateral.specs.Requirements.{owes}
+use Rattle.desk.specs.Reports.{statements}
 use Rattle.desk.proofs.DrawnUp.{followed_by, left}
 use Rattle.desk.proofs.statements.draw_up.Given as goal
 
