@@ -1,6 +1,6 @@
 //! How a program over standard input ends: with the report, or with the fault's line and status 1.
 use crate::days::margin_day;
-use crate::printing::{print_fault, print_report};
+use crate::printing::fault_line;
 use std::process::ExitCode;
 use stream::reading::Stop;
 
@@ -11,7 +11,7 @@ pub fn close(rt: &HostRuntime) -> ExitCode {
     };
     let _ = match stop {
         Stop::Refused(fault) => {
-            print_fault(rt, fault);
+            let _ = print!(rt; "{}", fault_line(fault));
             eprintln!(rt; "{fault}")
         }
         _ => eprintln!(rt; "margin: {stop}"),
@@ -21,5 +21,6 @@ pub fn close(rt: &HostRuntime) -> ExitCode {
 
 /// The report is printed only when every figure is there.
 fn report(rt: &HostRuntime) -> Result<(), Stop> {
-    print_report(rt, &margin_day(rt.stdin())?)
+    let day = margin_day(rt.stdin())?;
+    print!(rt; "{day}").map_err(|_| Stop::Unwritten)
 }

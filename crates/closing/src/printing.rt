@@ -1,60 +1,81 @@
 //! What goes to standard output: the report, or the fault's line alone.
+ghost use Rattle.std.specs.Prelude.{◌≡◌, Ok, Err, Some};
+ghost use Rattle.std.specs.Fmt.{DisplaysOnOk};
+ghost use Rattle.collateral.specs.Requirements.{owes};
+ghost use Rattle.lines.specs.Report.{fault_line};
+ghost use Rattle.closing.specs.Days.{figures};
+ghost use Rattle.closing.specs.Report.{call_lines, owed_lines, printed};
+
 use crate::days::Day;
+use collateral::statements::Statement;
 use lines::reader::LAST_LINE;
 use lines::report::{CallLine, FaultLine, OwedLine};
-use std::fmt::Display;
-use stream::reading::Stop;
+use std::fmt;
 use terms::faults::Fault;
 use terms::words::{Currency, Side};
 
-/// One line of the report.
-fn print_line<L: Display + Drop>(rt: &HostRuntime, line: L) -> Result<(), Stop> {
-    print!(rt; "{line}").map_err(|_| Stop::Unwritten)
-}
-
-/// What each account owes, in opening order and currency order.
-fn print_owed(rt: &HostRuntime, day: &Day) -> Result<(), Stop> {
-    for statement in day.statements.as_slice() {
-        for currency in Currency::ALL.into_iter().filter(|c| day.rates.quotes(*c)) {
-            let line = OwedLine {
-                name: statement.name,
-                currency,
-                owed: statement.owed[currency.number()],
-            };
-            print_line(rt, line)?;
+impl Day {
+    /// What an account owes, a line for each currency on the sheet.
+    fn fmt_owed<W: fmt::Write>(
+        &self,
+        statement: &Statement,
+        f: &mut fmt::Formatter<W>,
+    ) -> fmt::Result
+        ensures { DisplaysOnOk W.write_str_gives f.old result (Some (owed_lines (figures self.now) (owes statement.now))) f.new }
+    {
+        for currency in Currency::ALL {
+            if self.rates.quotes(currency) {
+                let line = OwedLine {
+                    name: statement.name,
+                    currency,
+                    owed: statement.owed[currency.number()],
+                };
+                write!(f, "{line}")?;
+            }
         }
+        Ok(())
     }
-    Ok(())
-}
 
-/// What one side has to bring and is called for, in currency order.
-fn print_calls(rt: &HostRuntime, day: &Day, side: Side) -> Result<(), Stop> {
-    for currency in Currency::ALL.into_iter().filter(|c| day.rates.quotes(*c)) {
-        let requirement = day.statements.requirement(side, currency);
-        let call = day.ledger.call(side, currency, requirement);
-        let line = CallLine {
-            side,
-            currency,
-            requirement,
-            call,
-        };
-        print_line(rt, line)?;
+    /// What one side has to bring and is called for, a line for each currency on the sheet.
+    fn fmt_calls<W: fmt::Write>(&self, side: Side, f: &mut fmt::Formatter<W>) -> fmt::Result
+        ensures { DisplaysOnOk W.write_str_gives f.old result (Some (call_lines (figures self.now) side)) f.new }
+    {
+        for currency in Currency::ALL {
+            if self.rates.quotes(currency) {
+                let requirement = self.statements.requirement(side, currency);
+                let call = self.ledger.call(side, currency, requirement);
+                let line = CallLine {
+                    side,
+                    currency,
+                    requirement,
+                    call,
+                };
+                write!(f, "{line}")?;
+            }
+        }
+        Ok(())
     }
-    Ok(())
 }
 
 /// The report: the accounts, then the client side, then the house side.
-pub fn print_report(rt: &HostRuntime, day: &Day) -> Result<(), Stop> {
-    print_owed(rt, day)?;
-    print_calls(rt, day, Side::Client)?;
-    print_calls(rt, day, Side::House)
+impl fmt::Display for Day {
+    ghost output = { λ day. Some (printed (Ok (figures day))) };
+
+    fn fmt<W: fmt::Write>(&self, f: &mut fmt::Formatter<W>) -> fmt::Result {
+        for statement in self.statements.as_slice() {
+            self.fmt_owed(statement, f)?;
+        }
+        self.fmt_calls(Side::Client, f)?;
+        self.fmt_calls(Side::House, f)
+    }
 }
 
 /// The line of a fault; a fault of the report itself has line 0.
-pub fn print_fault(rt: &HostRuntime, fault: Fault) {
-    let line = FaultLine {
+pub fn fault_line(fault: Fault) -> FaultLine
+    ensures { fault_line result.line result.refusal ≡ printed (Err fault) }
+{
+    FaultLine {
         line: fault.place.line.unwrap_or(0).min(LAST_LINE),
         refusal: fault.refusal,
-    };
-    let _ = print!(rt; "{line}");
+    }
 }
