@@ -52,6 +52,10 @@ pub data Margined (xs : List ℕ) (r : Result Figures Fault) : Type 0 where
   no_book : (w : Writing) (ys : List ℕ) (t : Reader) (f : Fault) (d : Dealing) → WritesSheet xs None w ys t → DealsBook w.draft ys t (Some f) d → r ≡ Err f → Margined xs r
   margined : (w : Writing) (ys : List ℕ) (t : Reader) (d : Dealing) → WritesSheet xs None w ys t → DealsBook w.draft ys t None d → r ≡ closed w.draft d → Margined xs r
 
+-- an input has one outcome
+abbrev pub OneOutcome : Type 0
+OneOutcome = (xs : List ℕ) (r s : Result Figures Fault) → Margined xs r → Margined xs s → r ≡ s
+
 -- the figures of a day that was read, as plain values
 abbrev pub figures : Day → Figures
 figures day = record { rates = day.rates.by_number; owed = map owes day.statements; records = day.ledger.records }

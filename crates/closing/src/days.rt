@@ -1,5 +1,5 @@
 //! A day: the sheet's lines, the book's lines, the close.
-ghost use Rattle.closing.specs.Days.{MarginedInput};
+ghost use Rattle.closing.specs.Days.{MarginedInput, OneOutcome};
 
 use crate::memory::{ACCOUNT, CLASS, SERIES};
 use book::books::Book;
@@ -29,6 +29,7 @@ pub struct Day {
 /// Reads an input to its end and margins its book by PRiME's charge.
 pub fn margin_day<R: Read + Drop>(input: R) -> Result<Day, Stop>
     ensures margined { MarginedInput (R.remaining input) result }
+    ensures one_outcome { OneOutcome }
 {
     let mut classes = [CLASS; MOST_CLASSES];
     let mut series = [SERIES; MOST_SERIES];
