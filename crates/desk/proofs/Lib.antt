@@ -2,3 +2,4 @@ pub mod Leads
 pub mod Halves
 pub mod DrawnUp
 pub mod Once
+pub mod Heads

@@ -1,5 +1,5 @@
 -- The lines of an input, taken one after the other: the first refusal ends the reading.
-use Rattle.std.specs.Prelude.{◌≡◌, ℕ, List, [], ◌∷◌, length, drop, Option, Some, None, Ok, Err, Result, IfSome}
+use Rattle.std.specs.Prelude.{◌≡◌, ℕ, zero, suc, List, [], ◌∷◌, length, drop, Option, Some, None, Ok, Err, Result, IfSome}
 use Rattle.lines.specs.Turns.{counted}
 use Rattle.lines.specs.declared.reader.Reader.{Reader}
 use Rattle.lines.specs.declared.reader.Section.{Section}
@@ -21,6 +21,11 @@ beginning = record { section = Sheet; line = 0 }
 -- what is left behind the first line
 abbrev pub behind : List ℕ → List ℕ
 behind xs = drop (length (first_line xs)) xs
+
+-- the first n lines; those that are missing at the end are empty
+abbrev pub first_lines : ℕ → List ℕ → List (List ℕ)
+first_lines zero xs = []
+first_lines (suc n) xs = first_line xs ∷ first_lines n (behind xs)
 
 -- an input that ends before E is refused 2, at the line that would come next
 abbrev pub early : Reader → Fault
