@@ -1,5 +1,5 @@
 -- What an account's statement says, and a side's requirement: the sum of what its accounts owe, each at least 0.
-use Rattle.std.specs.Prelude.{ℕ, Bool, true, false, cond, List, slice_index, sum_by}
+use Rattle.std.specs.Prelude.{◌≡◌, ℕ, ◌+◌, Bool, true, false, cond, List, [], ◌∷◌, ◌++◌, slice_index, sum_by}
 use Rattle.terms.specs.declared.names.Name.{Name}
 use Rattle.terms.specs.declared.words.Currency.{Currency}
 use Rattle.terms.specs.declared.words.Side.{Side}
@@ -29,3 +29,7 @@ owed_by s c a = cond (same_side a.side s) (slice_index a.owed (currency_number c
 -- the sum over the accounts: no account lessens it
 abbrev pub requirement_of : Side → Currency → List Owes → ℕ
 requirement_of s c rows = sum_by (owed_by s c) rows
+
+-- One account more adds what it owes through the side: no credit that it has lessens what the others owe.
+pub record NoneLessens : Type 0 where
+  pub adds : (s : Side) (c : Currency) (rows : List Owes) (a : Owes) → requirement_of s c (rows ++ a ∷ []) ≡ requirement_of s c rows + owed_by s c a

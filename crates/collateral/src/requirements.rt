@@ -1,7 +1,7 @@
 //! A side's requirement: what its accounts owe together.
 ghost use Rattle.std.specs.Prelude.{◌≡◌, ◌≤◌, map};
 ghost use Rattle.collateral.specs.declared.statements.TheConstants.{OWED_LIMIT};
-ghost use Rattle.collateral.specs.Requirements.{owed_by, owes, requirement_of};
+ghost use Rattle.collateral.specs.Requirements.{NoneLessens, owed_by, owes, requirement_of};
 
 use crate::statements::{OWED_LIMIT, Statement, Statements};
 use terms::words::{Currency, Side};
@@ -22,8 +22,10 @@ impl Statement {
 
 impl Statements {
     /// A side's requirement in a currency: the sum of what its accounts owe.
+    #[tactic(auto, using(crate::proofs::Totals::none_lessens))]
     pub fn requirement(&self, side: Side, currency: Currency) -> u64
         ensures value { result ≡ requirement_of side currency (map owes self.now) }
+        ensures law { NoneLessens }
         ensures bound { result ≤ 3200000000000 }
     {
         self.as_slice()

@@ -1,3 +1,4 @@
+pub mod Owns
 pub mod Leads
 pub mod Halves
 pub mod DrawnUp

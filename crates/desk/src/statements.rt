@@ -4,7 +4,7 @@ ghost use Rattle.std.specs.Result.{result_map_both};
 ghost use Rattle.account.specs.Offset.{Law, Owable};
 ghost use Rattle.book.specs.View.{view};
 ghost use Rattle.collateral.specs.Requirements.{owes};
-ghost use Rattle.desk.specs.Reports.{nth_report, statements};
+ghost use Rattle.desk.specs.Reports.{OwnAlone, nth_report, statements};
 
 use account::accounts::Account;
 use account::rule::{AccountReport, margin_account};
@@ -15,12 +15,14 @@ use terms::faults::Fault;
 use terms::words::Leg;
 
 /// The report of the account that was opened as the k-th, by a charge; none where fewer accounts are open.
+#[tactic(auto, using(crate::proofs::Owns::own_alone))]
 pub fn margin_nth<C: Charge>(
     charge: &C,
     book: &Book,
     k: usize,
 ) -> Option<Result<AccountReport, Fault>>
     ensures answer { result ≡ nth_report (C.Charge.meaning charge.now) (view book.now) k }
+    ensures own { OwnAlone }
     ensures law { IfSome result (λ answer. IfOk answer (λ r. Law r.sums (view book.now).rates r.owed r.requirement)) }
     ensures owed { IfSome result (λ answer. IfOk answer (λ r. Owable r.owed)) }
     ensures bound { IfSome result (λ answer. IfOk answer (λ r. r.requirement ≤ 100000000000000000)) }
