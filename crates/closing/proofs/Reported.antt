@@ -11,7 +11,6 @@ use Rattle.sheet.specs.Limits.{quoted}
 use Rattle.account.specs.Sums.{currencies}
 use Rattle.collateral.specs.declared.statements.Statement.{Statement}
 use Rattle.collateral.specs.Requirements.{owes}
-use Rattle.closing.specs.Days.{Figures}
 use Rattle.closing.specs.Report.{owed_lines}
 
 module _ {W : Type 0} (took : W → List ℕ → W → Type 0) where
@@ -36,36 +35,36 @@ module _ {W : Type 0} (took : W → List ℕ → W → Type 0) where
   pub ends : (f : Formatter W) (text rest : List ℕ) (g h : Formatter W) → Printing f text rest g → (IsPlainFormatter g → HasWritten took g rest h) → IsPlainFormatter f → HasWritten took f text h
   ends f text rest g h so_far writes plain = let p = so_far plain in has_written_of_eq took _ _ _ _ p.2 (has_written_append took _ _ _ _ _ p.1 (writes p.1.plain))
 
-module _ (day : Figures) (line : Currency → List ℕ) where
+module _ (rates : List ℕ) (line : Currency → List ℕ) where
   -- the lines of the currencies from a number on
   abbrev pub lines_from : ℕ → List ℕ
-  lines_from k = flat_map line (filter (quoted day.rates) (drop k currencies))
+  lines_from k = flat_map line (filter (quoted rates) (drop k currencies))
 
   module _ (k : ℕ) (lt : k < 5) where
     abbrev here : Currency
     here = get_or currencies k Hkd
 
-    next : lines_from k ≡ flat_map line (cond (quoted day.rates here) (here ∷ filter (quoted day.rates) (drop (k + 1) currencies)) (filter (quoted day.rates) (drop (k + 1) currencies)))
-    next = ap (λ cs. flat_map line (filter (quoted day.rates) cs)) (drop_more currencies k Hkd lt)
+    next : lines_from k ≡ flat_map line (cond (quoted rates here) (here ∷ filter (quoted rates) (drop (k + 1) currencies)) (filter (quoted rates) (drop (k + 1) currencies)))
+    next = ap (λ cs. flat_map line (filter (quoted rates) cs)) (drop_more currencies k Hkd lt)
 
     module _ {W : Type 0} (took : W → List ℕ → W → Type 0) (f : Formatter W) (text : List ℕ) (g h : Formatter W) (so_far : Printing took f text (lines_from k) g) where
       -- a currency on the sheet has its line
-      pub prints_line : true ≡ quoted day.rates here → (IsPlainFormatter g → HasWritten took g (line here) h) → Printing took f text (lines_from (k + 1)) h
+      pub prints_line : true ≡ quoted rates here → (IsPlainFormatter g → HasWritten took g (line here) h) → Printing took f text (lines_from (k + 1)) h
       prints_line on = prints took f text (lines_from k) (lines_from (k + 1)) g h so_far (line here) (rw (sym on) at next)
 
       -- any other has none
-      pub passes_over : false ≡ quoted day.rates here → h ≡ g → Printing took f text (lines_from (k + 1)) h
+      pub passes_over : false ≡ quoted rates here → h ≡ g → Printing took f text (lines_from (k + 1)) h
       passes_over off = prints_nothing took f text (lines_from k) (lines_from (k + 1)) g h so_far (rw (sym off) at next)
 
-module _ (day : Figures) (rest : List ℕ) (statements : List Statement) where
+module _ (rates rest : List ℕ) (statements : List Statement) where
   -- the lines of the accounts from a place on, and the rest
   abbrev pub accounts_from : ℕ → List ℕ
-  accounts_from k = flat_map (owed_lines day) (map owes (drop k statements)) ++ rest
+  accounts_from k = flat_map (owed_lines rates) (map owes (drop k statements)) ++ rest
 
   pub no_account : (k : ℕ) → length statements ≤ k → accounts_from k ≡ rest
-  no_account k le = ap (λ xs. flat_map (owed_lines day) (map owes xs) ++ rest) (drop_all k statements le)
+  no_account k le = ap (λ xs. flat_map (owed_lines rates) (map owes xs) ++ rest) (drop_all k statements le)
 
-  pub account : (k : ℕ) (a : Statement) → k < length statements → a ≡ get_or statements k a → accounts_from k ≡ owed_lines day (owes a) ++ accounts_from (k + 1)
+  pub account : (k : ℕ) (a : Statement) → k < length statements → a ≡ get_or statements k a → accounts_from k ≡ owed_lines rates (owes a) ++ accounts_from (k + 1)
   account k a lt is =
-      ap (λ xs. flat_map (owed_lines day) (map owes xs) ++ rest) (drop_more statements k a lt ∙ ap (λ x. x ∷ drop (k + 1) statements) (sym is))
-      ∙ append_assoc (owed_lines day (owes a)) _ rest
+      ap (λ xs. flat_map (owed_lines rates) (map owes xs) ++ rest) (drop_more statements k a lt ∙ ap (λ x. x ∷ drop (k + 1) statements) (sym is))
+      ∙ append_assoc (owed_lines rates (owes a)) _ rest

@@ -15,16 +15,16 @@ use Rattle.lines.specs.Report.{owed_line, call_line, fault_line}
 use Rattle.closing.specs.Days.{Figures}
 
 -- a line for each currency on the sheet, in the order of the currencies
-abbrev pub each_currency : Figures → (Currency → List ℕ) → List ℕ
-each_currency x line = flat_map line (filter (quoted x.rates) currencies)
+abbrev pub each_currency : List ℕ → (Currency → List ℕ) → List ℕ
+each_currency rates line = flat_map line (filter (quoted rates) currencies)
 
 -- what an account owes
 abbrev pub owed_in : Owes → Currency → List ℕ
 owed_in a c = owed_line a.name c (slice_index a.owed (currency_number c))
 
 -- an account's lines
-abbrev pub owed_lines : Figures → Owes → List ℕ
-owed_lines x a = each_currency x (owed_in a)
+abbrev pub owed_lines : List ℕ → Owes → List ℕ
+owed_lines rates a = each_currency rates (owed_in a)
 
 -- what a side has to bring, and what it is called for
 abbrev pub call_in : Figures → Side → Currency → List ℕ
@@ -32,7 +32,7 @@ call_in x s c = let required = requirement_of s c x.owed in call_line s c requir
 
 -- a side's lines
 abbrev pub call_lines : Figures → Side → List ℕ
-call_lines x s = each_currency x (call_in x s)
+call_lines x s = each_currency x.rates (call_in x s)
 
 -- both sides, the client side first
 abbrev pub sides : Figures → List ℕ
@@ -40,7 +40,7 @@ sides x = call_lines x Client ++ call_lines x House
 
 -- the accounts in opening order, then the sides
 abbrev pub report : Figures → List ℕ
-report x = flat_map (owed_lines x) x.owed ++ sides x
+report x = flat_map (owed_lines x.rates) x.owed ++ sides x
 
 -- the report of the figures, or the fault's line: 0 where the fault names no line, and at most what seven columns hold
 abbrev pub printed : Result Figures Fault → List ℕ

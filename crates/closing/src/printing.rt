@@ -10,51 +10,50 @@ use crate::days::Day;
 use collateral::statements::Statement;
 use lines::reader::LAST_LINE;
 use lines::report::{CallLine, FaultLine, OwedLine};
+use sheet::rates::Rates;
 use std::fmt;
 use terms::faults::Fault;
 use terms::words::{Currency, Side};
 
-impl Day {
-    /// What an account owes, a line for each currency on the sheet.
-    fn fmt_owed<W: fmt::Write>(
-        &self,
-        statement: &Statement,
-        f: &mut fmt::Formatter<W>,
-    ) -> fmt::Result
-        ensures { DisplaysOnOk W.write_str_gives f.old result (Some (owed_lines (figures self.now) (owes statement.now))) f.new }
-    {
-        for currency in Currency::ALL {
-            if self.rates.quotes(currency) {
-                let line = OwedLine {
-                    name: statement.name,
-                    currency,
-                    owed: statement.owed[currency.number()],
-                };
-                write!(f, "{line}")?;
-            }
+/// What an account owes, a line for each currency on the sheet.
+fn fmt_owed<W: fmt::Write>(
+    rates: &Rates,
+    statement: &Statement,
+    f: &mut fmt::Formatter<W>,
+) -> fmt::Result
+    ensures { DisplaysOnOk W.write_str_gives f.old result (Some (owed_lines rates.now.by_number (owes statement.now))) f.new }
+{
+    for currency in Currency::ALL {
+        if rates.quotes(currency) {
+            let line = OwedLine {
+                name: statement.name,
+                currency,
+                owed: statement.owed[currency.number()],
+            };
+            write!(f, "{line}")?;
         }
-        Ok(())
     }
+    Ok(())
+}
 
-    /// What one side has to bring and is called for, a line for each currency on the sheet.
-    fn fmt_calls<W: fmt::Write>(&self, side: Side, f: &mut fmt::Formatter<W>) -> fmt::Result
-        ensures { DisplaysOnOk W.write_str_gives f.old result (Some (call_lines (figures self.now) side)) f.new }
-    {
-        for currency in Currency::ALL {
-            if self.rates.quotes(currency) {
-                let requirement = self.statements.requirement(side, currency);
-                let call = self.ledger.call(side, currency, requirement);
-                let line = CallLine {
-                    side,
-                    currency,
-                    requirement,
-                    call,
-                };
-                write!(f, "{line}")?;
-            }
+/// What a side has to bring and is called for, a line for each currency on the sheet.
+fn fmt_calls<W: fmt::Write>(day: &Day, side: Side, f: &mut fmt::Formatter<W>) -> fmt::Result
+    ensures { DisplaysOnOk W.write_str_gives f.old result (Some (call_lines (figures day.now) side)) f.new }
+{
+    for currency in Currency::ALL {
+        if day.rates.quotes(currency) {
+            let requirement = day.statements.requirement(side, currency);
+            let call = day.ledger.call(side, currency, requirement);
+            let line = CallLine {
+                side,
+                currency,
+                requirement,
+                call,
+            };
+            write!(f, "{line}")?;
         }
-        Ok(())
     }
+    Ok(())
 }
 
 /// The report: the accounts, then the client side, then the house side.
@@ -63,10 +62,10 @@ impl fmt::Display for Day {
 
     fn fmt<W: fmt::Write>(&self, f: &mut fmt::Formatter<W>) -> fmt::Result {
         for statement in self.statements.as_slice() {
-            self.fmt_owed(statement, f)?;
+            fmt_owed(&self.rates, statement, f)?;
         }
-        self.fmt_calls(Side::Client, f)?;
-        self.fmt_calls(Side::House, f)
+        fmt_calls(self, Side::Client, f)?;
+        fmt_calls(self, Side::House, f)
     }
 }
 

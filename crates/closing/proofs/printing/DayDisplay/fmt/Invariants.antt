@@ -6,4 +6,4 @@ use Rattle.closing.proofs.printing.DayDisplay.fmt.Given as goal
 abbrev pub invariant-loop-statement : goal.invariant-loop-statement
 invariant-loop-statement g l =
     let day = figures l.self in
-    Printing g.W.Write.write_str_gives l.initial.f (report day) (accounts_from day (sides day) l.statement-items l.statement-index) l.f
+    Printing g.W.Write.write_str_gives l.initial.f (report day) (accounts_from day.rates (sides day) l.statement-items l.statement-index) l.f
