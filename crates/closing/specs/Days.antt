@@ -14,7 +14,7 @@ use Rattle.desk.specs.Dealings.{Dealing, deals}
 use Rattle.desk.specs.Listings.{Writing, writes}
 use Rattle.collateral.specs.Requirements.{Owes, owes}
 use Rattle.desk.specs.Reports.{statements}
-use Rattle.desk.specs.Runs.{Run, beginning, with_input, with_sheet}
+use Rattle.desk.specs.Runs.{Run, beginning, first_lines, with_input, with_sheet}
 use Rattle.closing.specs.declared.days.Day.{Day}
 
 -- an empty draft, with room for 16 classes and 128 series
@@ -55,6 +55,10 @@ pub data Margined (xs : List ℕ) (r : Result Figures Fault) : Type 0 where
 -- an input has one outcome
 abbrev pub OneOutcome : Type 0
 OneOutcome = (xs : List ℕ) (r s : Result Figures Fault) → Margined xs r → Margined xs s → r ≡ s
+
+-- the fault of line n stands whatever follows: every input with the same first n lines has it
+abbrev pub FaultOfLine : Type 0
+FaultOfLine = (n : ℕ) (f : Fault) (xs ys : List ℕ) → f.place.line ≡ Some n → first_lines n xs ≡ first_lines n ys → Margined xs (Err f) → Margined ys (Err f)
 
 -- the figures of a day that was read, as plain values
 abbrev pub figures : Day → Figures

@@ -1,5 +1,5 @@
 //! A day: the sheet's lines, the book's lines, the close.
-ghost use Rattle.closing.specs.Days.{MarginedInput, OneOutcome};
+ghost use Rattle.closing.specs.Days.{FaultOfLine, MarginedInput, OneOutcome};
 
 use crate::memory::{ACCOUNT, CLASS, SERIES};
 use book::books::Book;
@@ -30,6 +30,7 @@ pub struct Day {
 pub fn margin_day<R: Read + Drop>(input: R) -> Result<Day, Stop>
     ensures margined { MarginedInput (R.remaining input) result }
     ensures one_outcome { OneOutcome }
+    ensures fault_of_line { FaultOfLine }
 {
     let mut classes = [CLASS; MOST_CLASSES];
     let mut series = [SERIES; MOST_SERIES];

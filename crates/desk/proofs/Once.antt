@@ -234,19 +234,19 @@ module _ {D : Type 0} (judged : D → Section → Record → Option Fault → D 
       (x ∙ ap Ok (one_turn a b next next2 due due2) ∙ sym x2, same.state)
 
   -- a line is taken or refused in one way
-  told_once-of : (line : List ℕ) (reader s t : Reader) (answer : Result Reader Fault) (r q : Result Unit Fault)
+  told_alike : (line : List ℕ) (reader s t : Reader) (answer : Result Reader Fault) (r q : Result Unit Fault)
       → MatchResult r (λ _. answer ≡ Ok s) (λ f. (answer ≡ Err f) × (s ≡ reader))
       → MatchResult q (λ _. answer ≡ Ok t) (λ f. (answer ≡ Err f) × (t ≡ reader)) → (r ≡ q) × (s ≡ t)
-  told_once-of line reader s t answer (Ok u) (Ok v) x y = (refl, cc)
-  told_once-of line reader s t answer (Ok u) (Err f) x y = absurd cc
-  told_once-of line reader s t answer (Err f) (Ok v) x y = absurd cc
-  told_once-of line reader s t answer (Err f) (Err g) x y = (cc, x.1 ∙ sym y.1)
+  told_alike line reader s t answer (Ok u) (Ok v) x y = (refl, cc)
+  told_alike line reader s t answer (Ok u) (Err f) x y = absurd cc
+  told_alike line reader s t answer (Err f) (Ok v) x y = absurd cc
+  told_alike line reader s t answer (Err f) (Err g) x y = (cc, x.1 ∙ sym y.1)
 
   pub takes_once : (line : List ℕ) (reader : Reader) (d : D) (r q : Result Unit Fault) (s t : Reader) (e g : D) → Takes judged line reader d r s e → Takes judged line reader d q t g → (r ≡ q) × (s ≡ t) × (e ≡ g)
   takes_once line reader d r q s t e g x y =
       let same = answers_once line reader d x.answer y.answer e g x.answered y.answered in
       let two = subst (λ a. MatchResult q (λ _. numbered (counted reader.line) a ≡ Ok t) (λ f. (numbered (counted reader.line) a ≡ Err f) × (t ≡ reader))) (sym same.0) y.told in
-      let told = told_once-of line reader s t (numbered (counted reader.line) x.answer) r q x.told two in
+      let told = told_alike line reader s t (numbered (counted reader.line) x.answer) r q x.told two in
       (told.0, told.1, same.1)
 
   module _ (over : Reader → List ℕ → Option (Option Fault)) where
