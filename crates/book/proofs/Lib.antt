@@ -1,3 +1,4 @@
+pub mod Owns
 pub mod Cleared
 pub mod Slots
 pub mod Posted

@@ -5,3 +5,4 @@ pub mod View
 pub mod Found
 pub mod Uses
 pub mod Reads
+pub mod Reports

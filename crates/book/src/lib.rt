@@ -7,5 +7,6 @@ pub mod counts;
 mod dealings;
 pub mod limits;
 pub mod reads;
+pub mod reports;
 pub mod rows;
 mod spots;

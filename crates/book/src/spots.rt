@@ -1,11 +1,12 @@
 //! Where a dealing falls: the account, the series and the number of contracts that it names.
-ghost use Rattle.std.specs.Prelude.{◌≡◌, ℕ, ◌+◌, ◌<◌, ◌≤◌, length, IfOk, Some, None};
+ghost use Rattle.std.specs.Prelude.{◌≡◌, ℕ, ◌+◌, ◌<◌, ◌≤◌, length, IfOk, IfSome, Some, None};
 ghost use borrow.Author.Differences.{up};
 ghost use Rattle.terms.specs.Faults.{refusal, unless};
 ghost use Rattle.terms.specs.Keys.{figured};
 ghost use Rattle.register.specs.Rows.{sought};
 ghost use Rattle.sheet.specs.Rows.{series_rank};
-ghost use Rattle.book.specs.Rows.{slot_in};
+ghost use Rattle.book.specs.Rows.{account_rank, row_at, slot_in};
+ghost use Rattle.terms.specs.Names.{spelled};
 ghost use Rattle.book.specs.View.{view};
 ghost use Rattle.book.specs.Limits.{name_of, asked};
 ghost use Rattle.book.specs.Found.{not_there, there, absent, deal_fault, move_fault, Falls, at_spot, more, less};
@@ -13,6 +14,7 @@ ghost use Rattle.book.specs.Found.{not_there, there, absent, deal_fault, move_fa
 use crate::books::Book;
 use crate::dealings::{Dealing, Pair, Spot};
 use crate::limits::{named_twice, within_limits};
+use crate::rows::AccountRow;
 use terms::codes::Code;
 use terms::faults::{Fault, Place};
 use terms::keys::{AskedKey, SeriesKey};
@@ -21,7 +23,7 @@ use terms::names::Name;
 use terms::words::{Layer, Leg, Refusal};
 
 /// The fault that names what is absent.
-fn unknown(account: Option<Name>, class: Option<Code>) -> Fault
+pub(crate) fn unknown(account: Option<Name>, class: Option<Code>) -> Fault
     ensures value { result ≡ not_there account class }
 {
     let fault = Fault::new(Refusal::Unknown, Layer::Book);
@@ -44,6 +46,15 @@ impl Book<'_, '_> {
         let place = self.accounts.find(name)?;
         let row = self.accounts.get(place)?;
         Some(row.slot)
+    }
+
+    /// The row of the account with a name.
+    pub(crate) fn row_of(&self, name: &Name) -> Option<AccountRow>
+        ensures value { result ≡ row_at (view self.now).accounts (sought account_rank (spelled name.now) (view self.now).accounts) }
+        ensures bound { IfSome result (λ row. row.slot < length (view self.now).accounts) }
+    {
+        let place = self.accounts.find(name)?;
+        self.accounts.get(place)
     }
 
     /// The place of the series with a key.

@@ -24,7 +24,8 @@ use Rattle.account.specs.Sums.{currency_sum, currencies, sum_of}
 use Rattle.book.specs.declared.rows.AccountRow.{AccountRow}
 use Rattle.book.specs.State.{State}
 use Rattle.desk.specs.Dealings.{Dealing}
-use Rattle.desk.specs.Reports.{in_opening_order, row_report, statement_of_each}
+use Rattle.book.specs.Reports.{in_opening_order, row_report}
+use Rattle.desk.specs.Reports.{statement_of_each}
 use Rattle.closing.specs.Days.{closed}
 
 -- a fault, if there is one, names no line

@@ -13,7 +13,8 @@ use Rattle.book.specs.State.{State}
 use Rattle.book.specs.Reads.{numbered}
 use Rattle.collateral.specs.declared.statements.Statement.{Statement}
 use Rattle.collateral.specs.Requirements.{Owes, owes}
-use Rattle.desk.specs.Reports.{row_report, nth_report, statement, statement_of_each, in_opening_order, statements}
+use Rattle.book.specs.Reports.{row_report, nth_report, in_opening_order}
+use Rattle.desk.specs.Reports.{statement, statement_of_each, statements}
 
 -- statements that stand already, before those to come
 abbrev pub followed_by : List Owes → Result (List Owes) Fault → Result (List Owes) Fault

@@ -1,4 +1,3 @@
-pub mod Owns
 pub mod Leads
 pub mod Halves
 pub mod DrawnUp

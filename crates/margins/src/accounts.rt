@@ -13,10 +13,10 @@ use sheet::sheets::Sheet;
 use std::io;
 use terms::faults::Fault;
 
-/// The accounts by their opening numbers.
-const OMNIBUS: usize = 0;
+/// The accounts' names.
+const OMNIBUS: &[u8] = b"OMNIBUS";
 
-const HOUSE: usize = 1;
+const HOUSE: &[u8] = b"HOUSE";
 
 pub(crate) fn show_accounts(rt: &HostRuntime) -> io::Result<()> {
     let mut classes = [CLASS; 2];

@@ -88,7 +88,7 @@ fn show_on(rt: &HostRuntime, sheet: Sheet) -> io::Result<()> {
         "a cent of HKD against a cent of RMB",
         &prime(),
         &book,
-        0,
+        b"CENTS",
         &wanted,
     )
 }

@@ -2,7 +2,6 @@
 use account::rule::AccountReport;
 use book::books::Book;
 use charge::charges::Charge;
-use desk::statements::margin_nth;
 use example::verdicts::verdict;
 use std::fmt::Display;
 use std::io;
@@ -18,22 +17,22 @@ pub struct Wanted {
     pub requirement: u64,
 }
 
-/// Margins the account that was opened as the k-th and prints its figures.
+/// Margins an account by its name and prints its figures.
 pub(crate) fn show_margin<C: Charge>(
     rt: &HostRuntime,
     what: &str,
     charge: &C,
     book: &Book,
-    k: usize,
+    name: &[u8],
     wanted: &Wanted,
 ) -> io::Result<()> {
-    match margin_nth(charge, book, k) {
-        Some(Ok(report)) => show_report(rt, what, &report, wanted),
-        Some(Err(fault)) => {
+    let mut report = AccountReport::default();
+    match book.report(charge, name, &mut report) {
+        Ok(()) => show_report(rt, what, &report, wanted),
+        Err(fault) => {
             let number = fault.refusal.number();
             println!(rt; "{what}: refused {number}: DIFFERS")
         }
-        None => println!(rt; "{what}: no such account"),
     }
 }
 

@@ -3,7 +3,7 @@ use Rattle.std.proofs.lemmas.Result.{err_from_is_err_and}
 use Rattle.std.proofs.lemmas.List.{length-append}
 use Rattle.std.specs.Prelude.{option_map}
 use Rattle.book.specs.View.{view}
-use Rattle.desk.specs.Reports.{row_report}
+use Rattle.book.specs.Reports.{row_report}
 use Rattle.desk.proofs.DrawnUp.{all_left, passed_over, refuses, draws, all_drawn}
 use Rattle.desk.proofs.statements.draw_up.Goals as goal
 use Rattle.desk.proofs.statements.draw_up.Goals.{in-Some-Some+in_ok-owed, in-Some+in-None-1, in-None-1}
@@ -36,8 +36,8 @@ loop-k-preserved g c =
             ahead = draws m s l.k l.statements l.invariant.ahead lt both.row both.answer w.in_ok-owed.field-0 _ both.ensures.value both.ensures'.answer w.in_ok-owed.was refl;
           }))
       | in-Some+in-None-1 w ↦
-          (let none : None ≡ c.margin_nth.result = search rules in
-          rw w.statements-is (record { room = omega (arith, l.invariant.room); ahead = passed_over m s l.k l.statements l.invariant.ahead lt (none ∙ c.margin_nth.ensures.answer) }))
+          (let none : None ≡ c.nth_report.result = search rules in
+          rw w.statements-is (record { room = omega (arith, l.invariant.room); ahead = passed_over m s l.k l.statements l.invariant.ahead lt (none ∙ c.nth_report.ensures.answer) }))
       | in-None-1 w ↦
           (let none : None ≡ c.account.result = search rules in
           rw w.statements-is (record { room = omega (arith, l.invariant.room); ahead = passed_over m s l.k l.statements l.invariant.ahead lt (ap (option_map (row_report m s)) (none ∙ c.account.ensures.value)) }))

@@ -3,7 +3,7 @@ use Rattle.std.proofs.Common.{ap, ◌∙◌}
 use Rattle.terms.specs.declared.words.Leg.TheVariants.{Long, Short}
 use Rattle.account.specs.Rule.{account_report}
 use Rattle.book.specs.Reads.{counts_of}
-use Rattle.desk.specs.Reports.{OwnAlone}
+use Rattle.book.specs.Reports.{OwnAlone}
 
 pub own_alone : OwnAlone
 own_alone = record {
