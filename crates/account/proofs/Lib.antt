@@ -8,3 +8,6 @@ pub mod Chains
 pub mod Lines
 pub mod Offsets
 pub mod Reports
+pub mod Answered
+pub mod Joined
+pub mod Weighed

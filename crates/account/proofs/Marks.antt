@@ -29,7 +29,7 @@ counts_small b (l ∷ ls) (s ∷ ss) h (suc k) = counts_small b ls ss (λ j. h (
 nothing : (z : ℤ) (r : Series) → neg_ℤ (pos 0 *ℤ pos (worth_of r)) +ℤ z ≡ z
 nothing z r = ap (λ x. neg_ℤ x +ℤ z) (zero-*ℤ (pos (worth_of r))) ∙ +ℤ_idl z
 
-zeros : (rows : List Series) (n : ℕ) → mark rows (replicate n (pos 0)) ≡ pos 0
+pub zeros : (rows : List Series) (n : ℕ) → mark rows (replicate n (pos 0)) ≡ pos 0
 zeros [] n = refl
 zeros (r ∷ rs) zero = refl
 zeros (r ∷ rs) (suc n) = nothing (mark rs (replicate n (pos 0))) r ∙ zeros rs n

@@ -1,5 +1,5 @@
 -- The report that is written is the report of the rule, and every report of the rule keeps the law of the offset.
-use Rattle.std.proofs.Common.{◌≡◌, ℕ, ◌-◌, List, ◌++◌, length, drop, replicate, ℤ, pos, Ok, sym, refl, ap, subst}
+use Rattle.std.proofs.Common.{◌≡◌, ℕ, ◌-◌, List, ◌++◌, length, drop, replicate, ℤ, pos, ◌≤ℤ◌, Ok, sym, refl, ap, subst}
 use Rattle.std.proofs.lemmas.List.{drop-replicate}
 use Rattle.terms.specs.declared.names.Name.{Name}
 use Rattle.terms.specs.declared.words.Basis.{Basis}
@@ -50,3 +50,8 @@ module _ (m : Meaning) (sheet : Sheet) (name : Name) (b : Basis) (longs shorts :
   report_owable =
       let r = report_from in
       rw (← r.3) (owed_owable _ r.1 sheet.rates.by_number (limits_on sheet name r.0 r.1 sheet.rates.by_number refl (sym r.2)).debits)
+
+  pub report_covered : report.value ≤ℤ pos report.requirement
+  report_covered =
+      let r = report_from in
+      rw (← r.3) (law r.1 sheet.rates.by_number (limits_on sheet name r.0 r.1 sheet.rates.by_number refl (sym r.2)).rated).covered

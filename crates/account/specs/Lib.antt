@@ -5,3 +5,4 @@ pub mod Sums
 pub mod Offset
 pub mod Rule
 pub mod Accounts
+pub mod Pools

@@ -2,3 +2,10 @@ pub mod Owns
 pub mod Cleared
 pub mod Slots
 pub mod Posted
+pub mod Sums
+pub mod Pools
+pub mod Covers
+pub mod Totals
+pub mod Places
+pub mod Passed
+pub mod Conserved

@@ -4,5 +4,7 @@ pub mod State
 pub mod View
 pub mod Found
 pub mod Uses
+pub mod Law
 pub mod Reads
 pub mod Reports
+pub mod Pool

@@ -1,6 +1,8 @@
 //! The calls by which a book is dealt on.
 ghost use Rattle.std.specs.Prelude.{◌≡◌, length};
 ghost use Rattle.terms.specs.Faults.{refusal};
+ghost use Rattle.book.specs.Law.{HeldIsPosted};
+ghost use Rattle.book.specs.Pool.{BooksCovered, BooksOffset, PoolLaw};
 ghost use Rattle.book.specs.State.{empty};
 ghost use Rattle.book.specs.View.{view};
 ghost use Rattle.book.specs.Uses.{Opening, Posting, Closing, Moving, Step, at_both};
@@ -31,8 +33,13 @@ fn at_both(refusal: Refusal, account: Name, class: Code) -> Fault
 
 impl<'s, 'a> Book<'s, 'a> {
     /// A book without accounts, over memory that may hold anything.
+    #[tactic(auto, using(crate::proofs::Conserved::held_is_posted))]
     pub fn new(sheet: Sheet<'s>, rows: &'a mut [AccountRow], counts: &'a mut [u32]) -> Book<'s, 'a>
         ensures value { view result ≡ empty sheet.entry.rates.by_number sheet.entry.classes.now sheet.entry.series.now (length rows.old) counts.old }
+        ensures law { HeldIsPosted (view result) }
+        ensures pool_law { PoolLaw }
+        ensures covered { BooksCovered }
+        ensures offset { BooksOffset }
     {
         Book {
             sheet,
