@@ -1,5 +1,5 @@
 -- What answers is the plain figure: the sum of what it is formed from.
-use Rattle.std.proofs.Common.{◌≡◌, ℕ, ◌+◌, Bool, true, false, cond, List, [], ◌∷◌, map, leb, length, ℤ, pos, ◌+ℤ◌, Ok, Err, Result, refl, ap, ◌∙◌, arith}
+use Rattle.std.proofs.Common.{◌≡◌, ℕ, Bool, true, false, cond, List, [], ◌∷◌, map, leb, length, ℤ, pos, ◌+ℤ◌, Ok, Err, Result, refl, ap, ◌∙◌, arith}
 use borrow.Author.Differences.{ints}
 use Rattle.terms.specs.declared.codes.Code.{Code}
 use Rattle.terms.specs.declared.names.Name.{Name}
@@ -20,6 +20,7 @@ use Rattle.charge.specs.Replies.{amount_answer}
 use Rattle.account.specs.Outcomes.{beyond, bounded, plus, onto, each}
 use Rattle.account.specs.Pieces.{pieces, marks}
 use Rattle.account.specs.Figures.{handed_up, amounts, position_figure, figure_of}
+use Rattle.account.specs.Plain.{charged_of, plain_figure, class_plain}
 use Rattle.account.proofs.Outcomes.{never, after_ok}
 
 -- what stands behind a test that was passed
@@ -59,11 +60,6 @@ unfolding limited
 answer_plain true n l r z e = (refl, kept (leb n 100000000000) (too_large l) (pos n) z e)
 answer_plain false n l r z e = absurd (never (outside r) z e)
 
--- what pieces are charged one by one, added up
-abbrev pub charged_of : Meaning → Terms → List (List ℤ) → ℕ
-charged_of m t [] = 0
-charged_of m t (p ∷ ps) = m.charged t p + charged_of m t ps
-
 pub amounts_plain : (m : Meaning) (t : Terms) (ps : List (List ℤ)) (z : ℤ) → amounts m t ps ≡ Ok z → z ≡ pos (charged_of m t ps)
 amounts_plain m t [] z e = cc
 amounts_plain m t (p ∷ ps) z e =
@@ -72,10 +68,6 @@ amounts_plain m t (p ∷ ps) z e =
     let x = (answer_plain (fits (length t.rows) p) (m.charged t p) (m.blamed t p) m.refuses a.0 a.1).1 in
     let y = amounts_plain m t ps b.0 b.1 in
     omega (arith, ints, x, y, b.2)
-
--- the mark of the pieces and their charges
-abbrev pub plain_figure : Meaning → Basis → Terms → List ℤ → ℤ
-plain_figure m b t p = marks t.rows (pieces b p) +ℤ pos (charged_of m t (pieces b p))
 
 pub figure_plain : (m : Meaning) (b : Basis) (t : Terms) (p : List ℤ) (z : ℤ) → position_figure m b t p ≡ Ok z → z ≡ plain_figure m b t p
 figure_plain m b t p z e =
@@ -87,9 +79,6 @@ figure_plain m b t p z e =
 handed_ok : (name : Name) (code : Code) (r : Result ℤ Fault) (z : ℤ) → handed_up name code r ≡ Ok z → r ≡ Ok z
 handed_ok name code (Ok y) z e = e
 handed_ok name code (Err f) z e = absurd (never _ z e)
-
-abbrev pub class_plain : Meaning → Basis → List Series → List ℤ → ClassRow → ℤ
-class_plain m b rows counts k = plain_figure m b (given k rows) (beside k.code rows counts)
 
 pub class_figure_plain : (m : Meaning) (name : Name) (b : Basis) (rows : List Series) (counts : List ℤ) (k : ClassRow) (z : ℤ) → figure_of m name b rows counts k ≡ Ok z → z ≡ class_plain m b rows counts k
 class_figure_plain m name b rows counts k z e =

@@ -34,7 +34,7 @@ cond_small true n f z b e =
     rw (← q) (leb-true n 100000000000 (sym b))
 cond_small false n f z b e = absurd (never f z e)
 
-answer_small : (fit : Bool) (n : ℕ) (l r : Label) (z : ℤ) → answer fit n l r ≡ Ok z → nat_abs z ≤ 100000000000
+pub answer_small : (fit : Bool) (n : ℕ) (l r : Label) (z : ℤ) → answer fit n l r ≡ Ok z → nat_abs z ≤ 100000000000
 unfolding limited
 answer_small true n l r z e = cond_small (leb n 100000000000) n (too_large l) z refl e
 answer_small false n l r z e = absurd (never (outside r) z e)
@@ -47,12 +47,12 @@ pub plus_none : {E : Type 0} (r : Result ℤ E) → plus (pos 0) r ≡ r
 plus_none (Ok x) = ap Ok (+ℤ_idl x)
 plus_none (Err e) = refl
 
-plus_more : {E : Type 0} (a y : ℤ) (r : Result ℤ E) → plus a (plus y r) ≡ plus (a +ℤ y) r
+pub plus_more : {E : Type 0} (a y : ℤ) (r : Result ℤ E) → plus a (plus y r) ≡ plus (a +ℤ y) r
 plus_more a y (Ok x) = ap Ok (omega (arith, ints))
 plus_more a y (Err e) = refl
 
 -- the piece that is charged, and what is left when its count is set back
-single_is : (a cs : List ℤ) (i : ℕ) (x : ℤ) → a ≡ replicate (length cs) (pos 0) → x ≡ get_or cs i (pos 0) → set a i x ≡ single cs i
+pub single_is : (a cs : List ℤ) (i : ℕ) (x : ℤ) → a ≡ replicate (length cs) (pos 0) → x ≡ get_or cs i (pos 0) → set a i x ≡ single cs i
 single_is a cs i x e h = rw (e, h)
 
 pub cleared : (a : List ℤ) (n i : ℕ) (x : ℤ) → i < n → a ≡ replicate n (pos 0) → set (set a i x) i (pos 0) ≡ replicate n (pos 0)

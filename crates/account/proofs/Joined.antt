@@ -13,10 +13,12 @@ use Rattle.charge.specs.Sizes.{add_times}
 use Rattle.account.specs.Outcomes.{and_then, bounded, plus}
 use Rattle.account.specs.Pieces.{mark, marks}
 use Rattle.account.specs.Figures.{position_figure}
-use Rattle.account.specs.Pools.{ClassPool, empty_position, joined_from, joins, class_pool}
+use Rattle.account.specs.declared.pools.ClassPool.{ClassPool}
+use Rattle.account.specs.Pools.{empty_position, joined_from, joins, class_pool}
 use Rattle.account.proofs.Outcomes.{after_ok}
 use Rattle.account.proofs.Marks.{zeros}
-use Rattle.account.proofs.Answered.{same_ok, plus_ok, bounded_plain, answer_plain, charged_of, figure_plain}
+use Rattle.account.specs.Plain.{charged_of}
+use Rattle.account.proofs.Answered.{same_ok, plus_ok, bounded_plain, answer_plain, figure_plain}
 
 pub mark_joined : (rows : List Series) (p q : List ℤ) → length p ≡ length q → mark rows (joined p q) ≡ mark rows p +ℤ mark rows q
 mark_joined [] p q e = refl

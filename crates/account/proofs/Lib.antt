@@ -9,5 +9,6 @@ pub mod Lines
 pub mod Offsets
 pub mod Reports
 pub mod Answered
+pub mod Joins
 pub mod Joined
 pub mod Weighed

@@ -6,7 +6,7 @@ use Rattle.std.specs.List.{range_with_len}
 use Rattle.terms.specs.declared.words.Basis.{Basis}
 use Rattle.terms.specs.declared.words.Basis.TheVariants.{Net, Gross}
 use Rattle.sheet.specs.declared.rows.Series.{Series}
-use Rattle.sheet.specs.Limits.{worth_of}
+use Rattle.sheet.specs.Limits.{worth_of, Within}
 use Rattle.account.specs.Pieces.{margined, margined_counts, single, pieces, mark, marks, Small, Held}
 
 -- limits
@@ -15,15 +15,18 @@ length_margined b [] ss e = refl
 length_margined b (l ∷ ls) [] e = absurd (omega arith)
 length_margined b (l ∷ ls) (s ∷ ss) e = ap suc (length_margined b ls ss (omega arith))
 
-margined_small : (b : Basis) (l s : ℕ) → l ≤ 100000 → s ≤ 100000 → nat_abs (margined b l s) ≤ 3200000
+margined_small : (b : Basis) (l s : ℕ) → l ≤ 100000 → s ≤ 100000 → nat_abs (margined b l s) ≤ 100000
 margined_small Net l s p q = omega (arith, ints)
 margined_small Gross l s p q = omega (arith, ints)
 
+pub counts_within : (b : Basis) (ls ss : List ℕ) → Held ls ss → Within 100000 (margined_counts b ls ss)
+counts_within b [] ss h k = omega arith
+counts_within b (l ∷ ls) [] h k = omega arith
+counts_within b (l ∷ ls) (s ∷ ss) h zero = margined_small b l s (h 0).0 (h 0).1
+counts_within b (l ∷ ls) (s ∷ ss) h (suc k) = counts_within b ls ss (λ j. h (suc j)) k
+
 pub counts_small : (b : Basis) (ls ss : List ℕ) → Held ls ss → Small (margined_counts b ls ss)
-counts_small b [] ss h k = omega arith
-counts_small b (l ∷ ls) [] h k = omega arith
-counts_small b (l ∷ ls) (s ∷ ss) h zero = margined_small b l s (h 0).0 (h 0).1
-counts_small b (l ∷ ls) (s ∷ ss) h (suc k) = counts_small b ls ss (λ j. h (suc j)) k
+counts_small b ls ss h k = omega (arith, counts_within b ls ss h k)
 
 -- a gross account: the marks of the pieces add up to the mark of the counts
 nothing : (z : ℤ) (r : Series) → neg_ℤ (pos 0 *ℤ pos (worth_of r)) +ℤ z ≡ z

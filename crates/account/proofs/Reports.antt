@@ -1,9 +1,14 @@
--- The report that is written is the report of the rule, and every report of the rule keeps the law of the offset.
-use Rattle.std.proofs.Common.{◌≡◌, ℕ, ◌-◌, List, ◌++◌, length, drop, replicate, ℤ, pos, ◌≤ℤ◌, Ok, sym, refl, ap, subst}
+-- The report that is written is the report of the rule, and every account's own report keeps the law of the offset.
+use Rattle.std.proofs.Common.{◌≡◌, ℕ, ◌-◌, List, ◌++◌, length, drop, map, replicate, ℤ, pos, Ok, sym, refl, ap, subst}
 use Rattle.std.proofs.lemmas.List.{drop-replicate}
+use Rattle.std.specs.List.{All}
+use Rattle.std.specs.Prelude.{IsTrue}
 use Rattle.terms.specs.declared.names.Name.{Name}
 use Rattle.terms.specs.declared.words.Basis.{Basis}
+use Rattle.sheet.specs.declared.rows.ClassRow.{ClassRow}
+use Rattle.sheet.specs.declared.rows.Series.{Series}
 use Rattle.sheet.specs.declared.sheets.Sheet.{Sheet}
+use Rattle.sheet.specs.Limits.{class_fits}
 use Rattle.charge.specs.Meanings.{Meaning}
 use Rattle.account.specs.declared.rule.AccountReport.{AccountReport}
 use Rattle.account.specs.Outcomes.{and_then}
@@ -11,9 +16,10 @@ use Rattle.account.specs.Pieces.{margined_counts}
 use Rattle.account.specs.Figures.{figures_of}
 use Rattle.account.specs.Sums.{sums_of, value_of}
 use Rattle.account.specs.Offset.{fund_of, owed_of, requirement_of, Limits, Law, Owable}
+use Rattle.account.specs.Plain.{all_sums, class_plain, plain_report}
 use Rattle.account.specs.Rule.{tally, tally_of, report_of, account_report}
 use Rattle.account.proofs.Outcomes.{after_ok}
-use Rattle.account.proofs.Totals.{sums_limits}
+use Rattle.account.proofs.Totals.{rated_sums, sums_limits}
 use Rattle.account.proofs.Offsets.{law, owed_owable}
 
 -- figures at the front of a new array of m places
@@ -41,17 +47,14 @@ module _ (m : Meaning) (sheet : Sheet) (name : Name) (b : Basis) (longs shorts :
       let made : report_of t.0.figures t.0.sums sheet.rates.by_number ≡ report = cc in
       (f.0, s.0, s.1, rw (← same) at made)
 
-  pub report_lawful : Law report.sums sheet.rates.by_number report.owed report.requirement
-  report_lawful =
-      let r = report_from in
-      rw (← r.3) (law r.1 sheet.rates.by_number (limits_on sheet name r.0 r.1 sheet.rates.by_number refl (sym r.2)).rated)
-
   pub report_owable : Owable report.owed
   report_owable =
       let r = report_from in
       rw (← r.3) (owed_owable _ r.1 sheet.rates.by_number (limits_on sheet name r.0 r.1 sheet.rates.by_number refl (sym r.2)).debits)
 
-  pub report_covered : report.value ≤ℤ pos report.requirement
-  report_covered =
-      let r = report_from in
-      rw (← r.3) (law r.1 sheet.rates.by_number (limits_on sheet name r.0 r.1 sheet.rates.by_number refl (sym r.2)).rated).covered
+-- the plain report of any account keeps the law, whether its figures are within their limits or not
+pub plain_lawful : (m : Meaning) (b : Basis) (rates : List ℕ) (classes : List ClassRow) (rows : List Series) (longs shorts : List ℕ) → All (λ k. IsTrue (class_fits rates k)) classes →
+    let r = plain_report m b rates classes rows longs shorts in Law r.sums rates r.owed r.requirement
+plain_lawful m b rates classes rows longs shorts fit =
+    let figures = map (class_plain m b rows (margined_counts b longs shorts)) classes in
+    law (all_sums classes figures) rates (rated_sums classes figures rates fit)

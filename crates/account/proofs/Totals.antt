@@ -23,6 +23,7 @@ use Rattle.terms.specs.Faults.{refused}
 use Rattle.account.specs.Outcomes.{beyond, bounded, and_then, onto, each}
 use Rattle.account.specs.Sums.{currencies, currency_at, same_currency, sum_of, currency_too_large, currency_sum, sums_of, value_of}
 use Rattle.account.specs.Offset.{debit, credit, Limits}
+use Rattle.account.specs.Plain.{all_sums}
 use Rattle.account.proofs.Outcomes.{never}
 
 -- equal currencies are those of one number
@@ -92,6 +93,21 @@ rated_sum (k ∷ ks) (z ∷ zs) c rates h p = ⊎_elim
     (λ (e : same_currency k.currency c ≡ true). rw (eqb-true (currency_number k.currency) (currency_number c) e) at (ltb-true 0 _ (and_parts _ (quoted rates k.currency) h.0).1))
     (λ (e : same_currency k.currency c ≡ false). rated_sum ks zs c rates h.1 (rw (e, +ℤ_idl (sum_of c ks zs)) at p))
     (cases_Bool (same_currency k.currency c))
+
+each_rated : (ks : List ClassRow) (zs : List ℤ) (rates : List ℕ) → ((c : Currency) → 0 < debit (sum_of c ks zs) → 0 < get_or rates (currency_number c) 0)
+    → (k : ℕ) → 0 < debit (get_or (all_sums ks zs) k (pos 0)) → 0 < get_or rates k 0
+each_rated ks zs rates at zero p = at Hkd p
+each_rated ks zs rates at (suc zero) p = at Usd p
+each_rated ks zs rates at (suc (suc zero)) p = at Eur p
+each_rated ks zs rates at (suc (suc (suc zero))) p = at Jpy p
+each_rated ks zs rates at (suc (suc (suc (suc zero)))) p = at Rmb p
+each_rated ks zs rates at (suc (suc (suc (suc (suc k))))) p = absurd (omega arith)
+
+-- the sums of the currencies one by one: where one is a debit it has a rate
+pub rated_sums : (ks : List ClassRow) (zs : List ℤ) (rates : List ℕ) → AllAt (λ k. IsTrue (class_fits rates k)) ks → (k : ℕ) → 0 < debit (get_or (all_sums ks zs) k (pos 0)) → 0 < get_or rates k 0
+rated_sums ks zs rates fit k p =
+    let at : (c : Currency) → 0 < debit (sum_of c ks zs) → 0 < get_or rates (currency_number c) 0 = λ c q. rated_sum ks zs c rates (recursion_from_All (λ k. class_fits rates k ≡ true) ks fit) q in
+    each_rated ks zs rates at k p
 
 -- a currency's number is its place in their order
 pub numbered : (k : ℕ) (d : Currency) → k < 5 → currency_number (get_or currencies k d) ≡ k

@@ -19,7 +19,8 @@ use Rattle.account.specs.Figures.{figure_of, figures_of}
 use Rattle.account.specs.Sums.{currencies, same_currency, sum_of, currency_too_large, currency_sum, sums_of, value_of}
 use Rattle.account.specs.Rule.{Tally, tally, tally_of, report_of, account_report}
 use Rattle.account.proofs.Outcomes.{after_ok}
-use Rattle.account.proofs.Answered.{passed, same_ok, each_plain, class_plain, class_figure_plain}
+use Rattle.account.specs.Plain.{class_plain, all_sums, plain_report}
+use Rattle.account.proofs.Answered.{passed, same_ok, each_plain, class_figure_plain}
 
 abbrev pub rate_of : List ℕ → ClassRow → ℕ
 rate_of rates k = slice_index rates (currency_number k.currency)
@@ -28,10 +29,6 @@ abbrev pub weighed : List ℕ → List ClassRow → List ℤ → ℤ
 weighed rates [] zs = pos 0
 weighed rates (k ∷ classes) [] = pos 0
 weighed rates (k ∷ classes) (z ∷ zs) = (z *ℤ pos (rate_of rates k)) +ℤ weighed rates classes zs
-
--- the sums of all currencies
-abbrev pub all_sums : List ClassRow → List ℤ → List ℤ
-all_sums classes zs = map (λ c. sum_of c classes zs) currencies
 
 -- values of sums: of none, of one, and of sums added
 value_zeros : (n : ℕ) (rates : List ℕ) → value_of (replicate n (pos 0)) rates ≡ pos 0
@@ -76,10 +73,10 @@ sums_plain name classes zs sums e =
     (λ c z h. same_ok (sum_of c classes zs) z (passed (beyond (sum_of c classes zs)) (currency_too_large name c) (Ok (sum_of c classes zs)) z h))
     currencies sums e
 
--- where an account's report answers, its value is that of its plain class figures
-pub account_value : (m : Meaning) (name : Name) (b : Basis) (rates : List ℕ) (classes : List ClassRow) (rows : List Series) (longs shorts : List ℕ) (r : AccountReport) →
-    account_report m name b rates classes rows longs shorts ≡ Ok r → r.value ≡ weighed rates classes (map (class_plain m b rows (margined_counts b longs shorts)) classes)
-account_value m name b rates classes rows longs shorts r e =
+-- where an account's report answers, it is the plain report
+pub report_plain : (m : Meaning) (name : Name) (b : Basis) (rates : List ℕ) (classes : List ClassRow) (rows : List Series) (longs shorts : List ℕ) (r : AccountReport) →
+    account_report m name b rates classes rows longs shorts ≡ Ok r → r ≡ plain_report m b rates classes rows longs shorts
+report_plain m name b rates classes rows longs shorts r e =
     let counts = margined_counts b longs shorts in
     let t = after_ok (tally_of m name b classes rows counts) (λ t. Ok (report_of t.figures t.sums rates)) r e in
     let f = after_ok (figures_of m name b rows counts classes) (λ figures. and_then (sums_of name classes figures) (λ sums. Ok (tally figures sums))) t.0 t.1 in
@@ -87,7 +84,11 @@ account_value m name b rates classes rows longs shorts r e =
     let same : t.0 ≡ tally f.0 s.0 = same_ok (tally f.0 s.0) t.0 s.2 in
     let made : r ≡ report_of t.0.figures t.0.sums rates = same_ok (report_of t.0.figures t.0.sums rates) r t.2 in
     let figures = each_plain (figure_of m name b rows counts) (class_plain m b rows counts) (λ k z h. class_figure_plain m name b rows counts k z h) classes f.0 f.1 in
-    ap (λ (x : AccountReport). x.value) made
-    ∙ ap (λ xs. value_of xs rates) (ap (λ (x : Tally). x.sums) same ∙ sums_plain name classes f.0 s.0 s.1)
-    ∙ value_by_class rates classes f.0
-    ∙ ap (λ zs. weighed rates classes zs) figures
+    let sums = sums_plain name classes f.0 s.0 s.1 in
+    made ∙ ap (λ (x : Tally). report_of x.figures x.sums rates) same ∙ ap (λ xs. report_of f.0 xs rates) sums ∙ ap (λ zs. report_of zs (all_sums classes zs) rates) figures
+
+-- and so its value is that of its plain class figures
+pub account_value : (m : Meaning) (name : Name) (b : Basis) (rates : List ℕ) (classes : List ClassRow) (rows : List Series) (longs shorts : List ℕ) (r : AccountReport) →
+    account_report m name b rates classes rows longs shorts ≡ Ok r → r.value ≡ weighed rates classes (map (class_plain m b rows (margined_counts b longs shorts)) classes)
+account_value m name b rates classes rows longs shorts r e =
+    ap (λ (x : AccountReport). x.value) (report_plain m name b rates classes rows longs shorts r e) ∙ value_by_class rates classes (map (class_plain m b rows (margined_counts b longs shorts)) classes)

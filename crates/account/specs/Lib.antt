@@ -4,5 +4,6 @@ pub mod Figures
 pub mod Sums
 pub mod Offset
 pub mod Rule
+pub mod Plain
 pub mod Accounts
 pub mod Pools

@@ -6,6 +6,7 @@ use Rattle.sheet.specs.Given.{Terms}
 use Rattle.charge.specs.Meanings.{Meaning}
 use Rattle.charge.specs.Positions.{joined}
 use Rattle.charge.specs.Replies.{allowance_answer}
+use Rattle.account.specs.declared.pools.ClassPool.{ClassPool}
 use Rattle.account.specs.Outcomes.{and_then, bounded, plus}
 use Rattle.account.specs.Figures.{position_figure}
 
@@ -23,13 +24,10 @@ abbrev pub joins : Meaning → Terms → List ℤ → List (List ℤ) → Result
 joins m t p [] = Ok (pos 0)
 joins m t p (q ∷ qs) = and_then (allowance_answer m t p q) (λ x. plus x (joins m t (joined p q) qs))
 
--- the figure of a class's pieces as one piece, and the allowances of their joins
-pub record ClassPool : Type 0 where
-  pub figure : ℤ
-  pub allowance : ℤ
+-- The allowances' sum must not be too large; then comes the joined position: its mark and its charge. A refusal names no place yet.
+abbrev pub pool_of : Meaning → Terms → List ℤ → ℤ → Result ClassPool Fault
+pool_of m t p x = and_then (bounded x) (λ allowance. and_then (position_figure m Net t p) (λ figure. Ok (record { figure = figure; allowance = allowance })))
 
--- The joins come first, then their sum, which must not be too large, and then the joined position: its mark and its charge. A refusal names no place yet.
+-- The pool of a class: the joins of its pieces come first.
 abbrev pub class_pool : Meaning → Terms → List (List ℤ) → Result ClassPool Fault
-class_pool m t qs =
-    and_then (joins m t (empty_position t) qs) (λ x. and_then (bounded x) (λ allowance.
-    and_then (position_figure m Net t (joined_from (empty_position t) qs)) (λ figure. Ok (record { figure = figure; allowance = allowance }))))
+class_pool m t qs = and_then (joins m t (empty_position t) qs) (pool_of m t (joined_from (empty_position t) qs))

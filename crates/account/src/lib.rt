@@ -5,6 +5,7 @@ pub mod accounts;
 mod figures;
 pub mod offset;
 pub mod pieces;
+pub mod pools;
 pub mod positions;
 pub mod rule;
 mod sums;

@@ -15,7 +15,7 @@ pub fn is_beyond(figure: i64) -> bool
 }
 
 /// The figure, refused if it is too large.
-pub(crate) fn bounded(figure: i64) -> Result<i64, Fault>
+pub fn bounded(figure: i64) -> Result<i64, Fault>
     ensures answer { result ≡ bounded figure }
 {
     if is_beyond(figure) {

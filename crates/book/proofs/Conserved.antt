@@ -25,7 +25,8 @@ use Rattle.book.specs.Limits.{name_of, asked}
 use Rattle.book.specs.Found.{listed, deal_fault, move_fault}
 use Rattle.book.specs.State.{State, cell, held, at_count, cleared}
 use Rattle.book.specs.Uses.{Use, Opening, Posting, Closing, Moving, fault_of, done, after, opened, added, taken, count, at_both}
-use Rattle.book.specs.Law.{Event, Run, none, next, same_series, same_leg, posts, closes, if_accepted, posted, closed, held_by_all, HeldIsPosted}
+use Rattle.book.specs.Events.{Event, Happens, makes, asks, tries, Run, none, next}
+use Rattle.book.specs.Law.{same_series, same_leg, posts, closes, counting, posted, closed, held_by_all}
 use Rattle.book.proofs.Cleared.{cleared_below, cleared_within, cleared_length}
 use Rattle.book.proofs.Passed.{passed_test, passed_first, deal_stands, move_stands, space_passed}
 use Rattle.book.proofs.Places.{Stand, number_below, place_below, same_place}
@@ -54,12 +55,12 @@ kept_set s i j l v h = record { few_series = h.few_series; room = rw (length-set
 
 -- ---- what all accounts hold where a count is set, and where an account is opened
 module _ (s : State) (h : Kept s) (j : ℕ) (l : Leg) (few : j < 128) where
-  module _ (i k : ℕ) (m : Leg) (is_open : i < length s.accounts) (small : k < 128) where
+  module _ (i k : ℕ) (m : Leg) (number_open : i < length s.accounts) (place_small : k < 128) where
     set_held : (v : ℕ) → held_by_all (at_count s i k m v) j l + counted_for k m j l (held s i k m) ≡ held_by_all s j l + counted_for k m j l v
     set_held v =
         let was = h.each_once (λ a. held s a j l) in
         let is = h.each_once (λ a. held (at_count s i k m v) a j l) in
-        let moved = count_set (length s.accounts) s.counts i k m v j l is_open h.room small few in
+        let moved = count_set (length s.accounts) s.counts i k m v j l number_open h.room place_small few in
         omega (arith, was, is, moved)
 
     more_held : (n : ℕ) → held_by_all (at_count s i k m (held s i k m + n)) j l ≡ held_by_all s j l + counted_for k m j l n
@@ -123,17 +124,17 @@ module _ (s : State) (t : List ℕ) (k : AskedKey) (w : Stand s.accounts s.serie
   taken_there n = rw (w.account, w.listed) refl
 
   module _ (h : Kept s) (j : ℕ) (l : Leg) (few : j < 128) where
-    is_open : w.number < length s.accounts
-    is_open = number_below s.accounts (length s.accounts) (name_of t) w.number h.numbered w.account
+    number_open : w.number < length s.accounts
+    number_open = number_below s.accounts (length s.accounts) (name_of t) w.number h.numbered w.account
 
-    small : w.place < 128
-    small = let below = place_below s.series (figured (asked k)) w.place w.listed in let all = h.few_series in omega arith
+    place_small : w.place < 128
+    place_small = let below = place_below s.series (figured (asked k)) w.place w.listed in let all = h.few_series in omega arith
 
     added_held : (n : ℕ) → held_by_all (added s t k m n) j l ≡ held_by_all s j l + counted_for w.place m j l n
-    added_held n = ap (λ v. held_by_all v j l) (added_there n) ∙ more_held s h j l few w.number w.place m is_open small n
+    added_held n = ap (λ v. held_by_all v j l) (added_there n) ∙ more_held s h j l few w.number w.place m number_open place_small n
 
     taken_held : (n : ℕ) → n ≤ count s t k m → held_by_all (taken s t k m n) j l + counted_for w.place m j l n ≡ held_by_all s j l
-    taken_held n enough = ap (λ v. held_by_all v j l + counted_for w.place m j l n) (taken_there n) ∙ less_held s h j l few w.number w.place m is_open small n (omega (arith, count_there))
+    taken_held n enough = ap (λ v. held_by_all v j l + counted_for w.place m j l n) (taken_there n) ∙ less_held s h j l few w.number w.place m number_open place_small n (omega (arith, count_there))
 
 -- what is taken from the longs leaves the shorts
 shorts_left : (s : State) (t : List ℕ) (k : AskedKey) (n : ℕ) → Stand s.accounts s.series (name_of t) (asked k) → count (taken s t k Long n) t k Short ≡ count s t k Short
@@ -145,15 +146,15 @@ shorts_left s t k n w =
 
 -- ---- what an accepted use does to what all accounts hold of a series and a leg
 module _ (q : SeriesKey) (j : ℕ) (l : Leg) where
-  for_key : (s : State) (p : SeriesKey) (i : ℕ) → listed s p ≡ Some i → listed s q ≡ Some j → same_series p q ≡ eqb i j
-  for_key s p i e at = same_place s.series (figured p) (figured q) i j e at
+  same_series_is : (s : State) (p : SeriesKey) (i : ℕ) → listed s p ≡ Some i → listed s q ≡ Some j → same_series p q ≡ eqb i j
+  same_series_is s p i e at = same_place s.series (figured p) (figured q) i j e at
 
   done_held : (s : State) → Kept s → j < 128 → listed s q ≡ Some j → (u : Use) → None ≡ fault_of s u → held_by_all (done s u) j l + closes q u ≡ held_by_all s j l + posts q l u
   done_held s h few at (Opening t b d) e = ap (λ x. x + 0) (opened_held s h j l few (name_of t) b d (space_passed s t b d e))
   done_held s h few at (Posting t k m n) e =
       let w = deal_stands s t k n (passed_first (deal_fault s t k n) _ e).0 in
       let more = added_held s t k w m h j l few (up n) in
-      let mine = ap (λ b. cond (b && same_leg m l) (up n) 0) (for_key s (asked k) w.place w.listed at) in
+      let mine = ap (λ b. cond (b && same_leg m l) (up n) 0) (same_series_is s (asked k) w.place w.listed at) in
       omega (arith, more, mine)
   done_held s h few at (Closing t k n) e =
       let a = passed_first (deal_fault s t k n) _ e in
@@ -163,7 +164,7 @@ module _ (q : SeriesKey) (j : ℕ) (l : Leg) where
       let left = taken s t k Long (up n) in
       let short = taken_held left t k w Short (kept_set s _ _ Long _ h) j l few (up n) (omega (arith, shorts_left s t k (up n) w)) in
       let both = counted_both w.place j l (up n) in
-      let mine = ap (λ b. cond b (up n) 0) (for_key s (asked k) w.place w.listed at) in
+      let mine = ap (λ b. cond b (up n) 0) (same_series_is s (asked k) w.place w.listed at) in
       omega (arith, long, short, both, mine)
   done_held s h few at (Moving a b k m n) e =
       let c = passed_first (move_fault s a b k n) _ e in
@@ -175,43 +176,55 @@ module _ (q : SeriesKey) (j : ℕ) (l : Leg) where
       let same = ap (λ p. counted_for p m j l (up n)) place in
       omega (arith, less, more, same)
 
-  -- a use, accepted or refused
-  after_held : (s : State) → Kept s → j < 128 → listed s q ≡ Some j → (u : Use) (o : Option Fault) → o ≡ fault_of s u
-      → held_by_all (after s u o) j l + if_accepted o (closes q u) ≡ held_by_all s j l + if_accepted o (posts q l u)
-  after_held s h few at u None e = done_held s h few at u e
-  after_held s h few at u (Some f) e = refl
+  -- an event
+  event_held : {s : State} {e : Event} {t : State} → Kept s → j < 128 → listed s q ≡ Some j → Happens s e t
+      → held_by_all t j l + counting (closes q) e ≡ held_by_all s j l + counting (posts q l) e
+  event_held {s} h few at (makes {u = u} {o = None} step) =
+      let here = ap (λ x. held_by_all x j l) step.state in
+      omega (arith, here, done_held s h few at u step.fault)
+  event_held {s} h few at (makes {u = u} {o = Some f} step) = ap (λ x. held_by_all x j l + 0) step.state
+  event_held h few at (asks a) = refl
+  event_held h few at (tries e w) = refl
 
-series_after : (s : State) (u : Use) (o : Option Fault) → (after s u o).series ≡ s.series
-series_after s (Opening t b d) None = refl
-series_after s (Posting t k m n) None = refl
-series_after s (Closing t k n) None = refl
-series_after s (Moving a b k m n) None = refl
-series_after s u (Some f) = refl
+series_kept : (s : State) (u : Use) (o : Option Fault) → (after s u o).series ≡ s.series
+series_kept s (Opening t b d) None = refl
+series_kept s (Posting t k m n) None = refl
+series_kept s (Closing t k n) None = refl
+series_kept s (Moving a b k m n) None = refl
+series_kept s u (Some f) = refl
 
 -- ---- a run from a book that is as what is kept
+kept_over : {s : State} {e : Event} {t : State} → Happens s e t → Kept s → Kept t
+kept_over {s} (makes {u = u} {o = o} step) h = let P : State → Type 0 = λ x. Kept x in subst P (sym step.state) (kept_after s u o h step.fault)
+kept_over (asks a) h = h
+kept_over (tries e w) h = h
+
+series_over : {s : State} {e : Event} {t : State} → Happens s e t → t.series ≡ s.series
+series_over {s} (makes {u = u} {o = o} step) = ap (λ x. x.series) step.state ∙ series_kept s u o
+series_over (asks a) = refl
+series_over (tries e w) = refl
+
 run_held : {s : State} {es : List Event} {t : State} → Run s es t → Kept s → (q : SeriesKey) (j : ℕ) (l : Leg) → listed s q ≡ Some j
     → held_by_all t j l + closed es q ≡ held_by_all s j l + posted es q l
 run_held none h q j l at = refl
 run_held {s} (next {t = t} e {es = es} step r) h q j l at =
-    let P : State → Type 0 = λ x. Kept x in
-    let kept : Kept t = subst P (sym step.state) (kept_after s e.made e.answer h step.fault) in
-    let there : listed t q ≡ Some j = ap (λ rows. sought series_rank (figured q) rows) (ap (λ x. x.series) step.state ∙ series_after s e.made e.answer) ∙ at in
-    let rest = run_held r kept q j l there in
+    let there : listed t q ≡ Some j = ap (λ rows. sought series_rank (figured q) rows) (series_over step) ∙ at in
+    let rest = run_held r (kept_over step h) q j l there in
     let space = h.few_series in
     let below = place_below s.series (figured q) j at in
-    let first = after_held q j l s h (omega arith) at e.made e.answer step.fault in
-    let here = ap (λ x. held_by_all x j l) step.state in
-    let outs = sum_by-cons (λ (x : Event). if_accepted x.answer (closes q x.made)) e es in
-    let ins = sum_by-cons (λ (x : Event). if_accepted x.answer (posts q l x.made)) e es in
-    omega (arith, rest, first, here, outs, ins)
+    let first = event_held q j l h (omega arith) at step in
+    let outs = sum_by-cons (counting (closes q)) e es in
+    let ins = sum_by-cons (counting (posts q l)) e es in
+    omega (arith, rest, first, outs, ins)
 
-series_run : {s : State} {es : List Event} {t : State} → Run s es t → t.series ≡ s.series
-series_run none = refl
-series_run {s} (next e step r) = series_run r ∙ ap (λ x. x.series) step.state ∙ series_after s e.made e.answer
+series_kept_over : {s : State} {es : List Event} {t : State} → Run s es t → t.series ≡ s.series
+series_kept_over none = refl
+series_kept_over (next e step r) = series_kept_over r ∙ series_over step
 
 -- of a book without accounts
-pub held_is_posted : (s : State) → s.accounts ≡ [] → length s.series ≤ 128 → HeldIsPosted s
+pub held_is_posted : (s : State) → s.accounts ≡ [] → length s.series ≤ 128 → (es : List Event) (t : State) → Run s es t
+    → (q : SeriesKey) (j : ℕ) (l : Leg) → listed t q ≡ Some j → held_by_all t j l + closed es q ≡ posted es q l
 held_is_posted s new short es t r q j l at =
-    let all = run_held r (kept_new s new short) q j l (ap (λ rows. sought series_rank (figured q) rows) (sym (series_run r)) ∙ at) in
+    let all = run_held r (kept_new s new short) q j l (ap (λ rows. sought series_rank (figured q) rows) (sym (series_kept_over r)) ∙ at) in
     let first : held_by_all s j l ≡ 0 = ap (λ rows. sum_by (λ (a : AccountRow). held s a.slot j l) rows) new in
     omega (arith, all, first)

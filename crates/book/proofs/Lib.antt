@@ -9,3 +9,9 @@ pub mod Totals
 pub mod Places
 pub mod Passed
 pub mod Conserved
+pub mod Laws
+pub mod Tried
+pub mod Replayed
+pub mod Taken
+pub mod Joining
+pub mod Filled

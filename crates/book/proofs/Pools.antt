@@ -1,5 +1,5 @@
 -- The law of the pool: a pool comes to no more than its accounts one by one and the allowance.
-use Rattle.std.proofs.Common.{◌≡◌, ℕ, ◌+◌, List, [], ◌∷◌, ◌++◌, map, ℤ, pos, ◌+ℤ◌, ◌*ℤ◌, ◌≤ℤ◌, Ok, Err, Result, refl, ap, ◌∙◌, arith}
+use Rattle.std.proofs.Common.{◌≡◌, ℕ, ◌+◌, List, [], ◌∷◌, ◌++◌, map, ℤ, pos, ◌+ℤ◌, ◌*ℤ◌, ◌≤ℤ◌, Ok, Err, Option, Result, refl, ap, ◌∙◌, arith}
 use borrow.Author.Differences.{ints}
 use Rattle.terms.specs.declared.codes.Code.{Code}
 use Rattle.terms.specs.declared.faults.Fault.{Fault}
@@ -7,6 +7,7 @@ use Rattle.terms.specs.declared.words.Currency.{Currency}
 use Rattle.terms.specs.declared.words.Layer.TheVariants.{Account}
 use Rattle.terms.specs.declared.words.Leg.TheVariants.{Long, Short}
 use Rattle.terms.specs.declared.words.Refusal.TheVariants.{TooLarge}
+use Rattle.terms.specs.declared.words.Side.{Side}
 use Rattle.terms.specs.Faults.{refused, with_currency}
 use Rattle.sheet.specs.declared.rows.ClassRow.{ClassRow}
 use Rattle.sheet.specs.declared.rows.Series.{Series}
@@ -16,21 +17,24 @@ use Rattle.charge.specs.Sizes.{add_times}
 use Rattle.account.specs.declared.rule.AccountReport.{AccountReport}
 use Rattle.account.specs.Outcomes.{beyond, and_then}
 use Rattle.account.specs.Pieces.{pieces, marks}
-use Rattle.account.specs.Pools.{ClassPool, class_pool}
+use Rattle.account.specs.declared.pools.ClassPool.{ClassPool}
+use Rattle.account.specs.Pools.{class_pool}
 use Rattle.account.specs.Sums.{currencies, sum_of, value_of}
 use Rattle.account.proofs.Outcomes.{never, after_ok}
-use Rattle.account.proofs.Answered.{passed, same_ok, charged_of, plain_figure}
+use Rattle.account.specs.Plain.{charged_of, plain_figure}
+use Rattle.account.proofs.Answered.{passed, same_ok}
 use Rattle.account.proofs.Joined.{class_pool_law}
 use Rattle.account.proofs.Weighed.{rate_of, weighed, value_by_class, account_value}
 use Rattle.book.specs.declared.rows.AccountRow.{AccountRow}
-use Rattle.book.specs.Pool.{PoolFigures, PoolLaw, Covered, pooled, counts_in, pieces_in, all_of, in_the_class, pool_in, pool_sum, summed, allowances}
+use Rattle.book.specs.declared.pooling.PoolFigures.{PoolFigures}
+use Rattle.book.specs.Pool.{pool, pooled, counts_in, pieces_in, all_of, in_the_class, pool_in, pool_sum, summed, allowances}
 use Rattle.book.specs.Reads.{counts_of}
 use Rattle.book.specs.Reports.{row_report}
 use Rattle.book.specs.State.{State}
 use Rattle.book.proofs.Sums.{total, times_le, total_times, exchange, weighed_total}
 
 -- the first of several answers, and those after it
-all_more : {A B : Type 0} (g : A → Result B Fault) (x : A) (xs : List A) (zs : List B) → all_of g (x ∷ xs) ≡ Ok zs → (y : B) × (ys : List B) × (g x ≡ Ok y) × (all_of g xs ≡ Ok ys) × (zs ≡ y ∷ ys)
+pub all_more : {A B : Type 0} (g : A → Result B Fault) (x : A) (xs : List A) (zs : List B) → all_of g (x ∷ xs) ≡ Ok zs → (y : B) × (ys : List B) × (g x ≡ Ok y) × (all_of g xs ≡ Ok ys) × (zs ≡ y ∷ ys)
 all_more g x xs zs e =
     let a = after_ok (g x) (λ y. and_then (all_of g xs) (λ ys. Ok (y ∷ ys))) zs e in
     let b = after_ok (all_of g xs) (λ ys. Ok (a.0 ∷ ys)) zs a.2 in
@@ -48,7 +52,7 @@ sums_plain classes figures (c ∷ cs) sums e =
 sums_value : (rates : List ℕ) (classes : List ClassRow) (figures sums : List ℤ) → all_of (pool_sum classes figures) currencies ≡ Ok sums → value_of sums rates ≡ weighed rates classes figures
 sums_value rates classes figures sums e = ap (λ xs. value_of xs rates) (sums_plain classes figures currencies sums e) ∙ value_by_class rates classes figures
 
-class_ok : {X : Type 0} (c : Code) (r : Result X Fault) (z : X) → in_the_class c r ≡ Ok z → r ≡ Ok z
+pub class_ok : {X : Type 0} (c : Code) (r : Result X Fault) (z : X) → in_the_class c r ≡ Ok z → r ≡ Ok z
 class_ok c (Ok y) z e = e
 class_ok c (Err f) z e = absurd (never _ z e)
 
@@ -60,6 +64,10 @@ marks_after rows (p ∷ ps) qs = omega (arith, ints, marks_after rows ps qs)
 charged_after : (m : Meaning) (t : Terms) (ps qs : List (List ℤ)) → charged_of m t (ps ++ qs) ≡ charged_of m t ps + charged_of m t qs
 charged_after m t [] qs = omega arith
 charged_after m t (p ∷ ps) qs = omega (arith, charged_after m t ps qs)
+
+-- each account's requirement value covers its value
+abbrev pub Covered : Meaning → State → Type 0
+Covered m s = (a : AccountRow) (r : AccountReport) → row_report m s a ≡ Ok r → r.value ≤ℤ pos r.requirement
 
 module _ (m : Meaning) (s : State) where
   -- the plain figure of an account in a class, and its value at the rate of the class's currency
@@ -102,7 +110,8 @@ module _ (m : Meaning) (s : State) where
       let by = weighed_total s.rates (λ k. figure_in k a) s.classes in
       rw c.4 (omega (arith, ints, value, by, h a c.0 c.2, values_covered h rows c.1 c.3))
 
-pub pool_law : PoolLaw
+-- Wherever a pool answers, for a lawful charge, it is at most the summed requirement value and the pooling allowance.
+pub pool_law : (m : Meaning) → Lawful m → (s : State) → Covered m s → (o : Option Side) (p : PoolFigures) → pool m s o ≡ Ok p → p.value ≤ℤ (pos p.summed +ℤ p.allowance)
 pool_law m law s covered o p e =
     let rows = pooled s o in
     let figures : List ClassPool → List ℤ = λ ps. map (λ p. p.figure) ps in

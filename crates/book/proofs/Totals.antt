@@ -48,15 +48,15 @@ module _ (n : ℕ) (xs : List ℕ) (a k : ℕ) (m : Leg) (v j : ℕ) (l : Leg) (
   g : ℕ → ℕ
   g i = get_or (set xs (cell a k m) v) (cell i j l) 0
 
-  hit : cell a k m ≡ cell a j l → count_below n (set xs (cell a k m) v) j l + get_or xs (cell a k m) 0 ≡ count_below n xs j l + v
+  set_there : cell a k m ≡ cell a j l → count_below n (set xs (cell a k m) v) j l + get_or xs (cell a k m) 0 ≡ count_below n xs j l + v
   unfolding f g
-  hit e =
+  set_there e =
       let lb = leg_below l in
       let here : g a ≡ v = ap (λ p. get_or (set xs (cell a k m) v) p 0) (sym e) ∙ get_or-set_same xs (cell a k m) v 0 (omega arith) in
       ap (λ p. sum_below n g + get_or xs p 0) e ∙ sum_changed n f g a is_open (λ i lt ne. get_or-set_other xs (cell a k m) (cell i j l) v 0 (omega arith)) ∙ ap (λ w. sum_below n f + w) here
 
-  miss : ((i : ℕ) → cell i j l ≢ cell a k m) → count_below n (set xs (cell a k m) v) j l ≡ count_below n xs j l
-  miss apart = sum_same n _ _ (λ i lt. get_or-set_other xs (cell a k m) (cell i j l) v 0 (apart i))
+  set_elsewhere : ((i : ℕ) → cell i j l ≢ cell a k m) → count_below n (set xs (cell a k m) v) j l ≡ count_below n xs j l
+  set_elsewhere apart = sum_same n _ _ (λ i lt. get_or-set_other xs (cell a k m) (cell i j l) v 0 (apart i))
 
   pub count_set : count_below n (set xs (cell a k m) v) j l + counted_for k m j l (get_or xs (cell a k m) 0) ≡ count_below n xs j l + counted_for k m j l v
   count_set =
@@ -64,10 +64,10 @@ module _ (n : ℕ) (xs : List ℕ) (a k : ℕ) (m : Leg) (v j : ℕ) (l : Leg) (
       let mb = leg_below m in
       ⊎_elim
       (λ (p : k ≡ j). ⊎_elim
-      (λ (q : leg_number m ≡ leg_number l). rw (eq-eqb k j p, eq-eqb (leg_number m) (leg_number l) q) (hit (omega arith)))
-      (λ (q : leg_number m ≢ leg_number l). rw (eq-eqb k j p, ne_eqb (leg_number m) (leg_number l) q) (ap (λ w. w + 0) (miss (λ i. omega arith))))
+      (λ (q : leg_number m ≡ leg_number l). rw (eq-eqb k j p, eq-eqb (leg_number m) (leg_number l) q) (set_there (omega arith)))
+      (λ (q : leg_number m ≢ leg_number l). rw (eq-eqb k j p, ne_eqb (leg_number m) (leg_number l) q) (ap (λ w. w + 0) (set_elsewhere (λ i. omega arith))))
       (cases_eq (leg_number m) (leg_number l)))
-      (λ (p : k ≢ j). rw (ne_eqb k j p) (ap (λ w. w + 0) (miss (λ i. omega arith))))
+      (λ (p : k ≢ j). rw (ne_eqb k j p) (ap (λ w. w + 0) (set_elsewhere (λ i. omega arith))))
       (cases_eq k j)
 
 pub counted_sum : (k : ℕ) (m : Leg) (j : ℕ) (l : Leg) (x y : ℕ) → counted_for k m j l (x + y) ≡ counted_for k m j l x + counted_for k m j l y

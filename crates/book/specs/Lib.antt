@@ -4,7 +4,10 @@ pub mod State
 pub mod View
 pub mod Found
 pub mod Uses
-pub mod Law
 pub mod Reads
 pub mod Reports
 pub mod Pool
+pub mod Events
+pub mod Law
+pub mod Trials
+pub mod Replays

@@ -1,5 +1,6 @@
 -- The pool: the pieces of one side's accounts, or of all, joined in opening order and then in sheet order, and margined as one position.
-use Rattle.std.specs.Prelude.{◌≡◌, ℕ, ◌+◌, Bool, true, cond, List, [], ◌∷◌, ◌++◌, map, filter, ℤ, pos, ◌+ℤ◌, ◌*ℤ◌, ◌≤ℤ◌, Some, None, Ok, Err, Option, Result, ◌==◌, slice_index}
+use Rattle.std.specs.Prelude.{◌≡◌, ℕ, ◌+◌, Bool, true, cond, List, [], ◌∷◌, ◌++◌, length, map, filter, ℤ, pos, ◌+ℤ◌, ◌*ℤ◌, Some, None, Ok, Err, Option, Result, ◌==◌, slice_index, unsigned_abs, ◌≤◌}
+use Rattle.std.specs.List.{All}
 use Rattle.terms.specs.declared.codes.Code.{Code}
 use Rattle.terms.specs.declared.faults.Fault.{Fault}
 use Rattle.terms.specs.declared.words.Currency.{Currency}
@@ -10,21 +11,22 @@ use Rattle.terms.specs.declared.words.Side.{Side}
 use Rattle.terms.specs.Faults.{refused, with_class, with_currency}
 use Rattle.terms.specs.Words.{currency_number, side_number}
 use Rattle.sheet.specs.declared.rows.ClassRow.{ClassRow}
+use Rattle.sheet.specs.declared.rows.Series.{Series}
 use Rattle.sheet.specs.Given.{given}
-use Rattle.sheet.specs.Rows.{beside}
-use Rattle.charge.specs.Meanings.{Meaning, Lawful}
+use Rattle.sheet.specs.Limits.{Within}
+use Rattle.sheet.specs.Rows.{of_class, beside}
+use Rattle.charge.specs.Meanings.{Meaning}
 use Rattle.account.specs.declared.rule.AccountReport.{AccountReport}
-use Rattle.account.specs.Offset.{Law}
 use Rattle.account.specs.Outcomes.{and_then, beyond}
 use Rattle.account.specs.Pieces.{margined_counts, pieces}
-use Rattle.account.specs.Pools.{ClassPool, class_pool}
+use Rattle.account.specs.declared.pools.ClassPool.{ClassPool}
+use Rattle.account.specs.Pools.{class_pool}
 use Rattle.account.specs.Sums.{currencies, sum_of, value_of}
-use Rattle.book.specs.declared.books.Book.{Book}
+use Rattle.book.specs.declared.pooling.PoolFigures.{PoolFigures}
 use Rattle.book.specs.declared.rows.AccountRow.{AccountRow}
 use Rattle.book.specs.Reads.{counts_of}
 use Rattle.book.specs.Reports.{in_opening_order, row_report}
 use Rattle.book.specs.State.{State}
-use Rattle.book.specs.View.{view}
 
 -- the accounts that a pool names, of one side or, where none is named, of both; in opening order
 abbrev pub pools : Option Side → AccountRow → Bool
@@ -37,6 +39,10 @@ pooled s o = filter (pools o) (in_opening_order s.accounts)
 -- an account's margined counts in a class
 abbrev pub counts_in : State → ClassRow → AccountRow → List ℤ
 counts_in s k a = beside k.code s.series (margined_counts a.basis (counts_of s a.slot Long) (counts_of s a.slot Short))
+
+-- As many as the class has series, and none above 100,000 in size.
+abbrev pub Counted : Code → List Series → List ℤ → Type 0
+Counted c rows ns = (length ns ≡ length (of_class c rows)) × Within 100000 ns
 
 -- the pieces of accounts in a class, account after account
 abbrev pub pieces_in : State → ClassRow → List AccountRow → List (List ℤ)
@@ -56,6 +62,10 @@ in_the_class c (Err f) = Err (with_class c f)
 abbrev pub pool_in : Meaning → State → List AccountRow → ClassRow → Result ClassPool Fault
 pool_in m s rows k = in_the_class k.code (class_pool m (given k s.series) (pieces_in s k rows))
 
+-- Each class's figure is at most 2 × 10^11 in size, and its allowance at most 10^11.
+abbrev pub Limited : List ClassPool → Type 0
+Limited ps = All (λ (p : ClassPool). (unsigned_abs p.figure ≤ 200000000000) × (unsigned_abs p.allowance ≤ 100000000000)) ps
+
 -- the sum of a currency's figures, which must not be too large; no account is named
 abbrev pub pool_sum : List ClassRow → List ℤ → Currency → Result ℤ Fault
 pool_sum classes figures c = cond (beyond (sum_of c classes figures)) (Err (with_currency c (refused TooLarge Account))) (Ok (sum_of c classes figures))
@@ -71,12 +81,6 @@ allowances rates [] ps = pos 0
 allowances rates (k ∷ classes) [] = pos 0
 allowances rates (k ∷ classes) (p ∷ ps) = (p.allowance *ℤ pos (slice_index rates (currency_number k.currency))) +ℤ allowances rates classes ps
 
--- the pooled value, the summed requirement value, and the pooling allowance
-pub record PoolFigures : Type 0 where
-  pub value : ℤ
-  pub summed : ℕ
-  pub allowance : ℤ
-
 -- A pool's refusals in their order: its accounts' reports, then each class by its code, then the currencies.
 abbrev pub pool : Meaning → State → Option Side → Result PoolFigures Fault
 pool m s o =
@@ -84,20 +88,3 @@ pool m s o =
     and_then (all_of (pool_in m s (pooled s o)) s.classes) (λ ps.
     and_then (all_of (pool_sum s.classes (map (λ p. p.figure) ps)) currencies) (λ sums.
     Ok (record { value = value_of sums s.rates; summed = summed reports; allowance = allowances s.rates s.classes ps }))))
-
--- The law of the pool, for every charge: wherever a pool answers, the summed requirement value is at least the pooled value less the pooling
--- allowance. It wants of the book that each account's requirement value covers its value (the law of the offset).
-abbrev pub Covered : Meaning → State → Type 0
-Covered m s = (a : AccountRow) (r : AccountReport) → row_report m s a ≡ Ok r → r.value ≤ℤ pos r.requirement
-
-abbrev pub PoolLaw : Type 0
-PoolLaw = (m : Meaning) → Lawful m → (s : State) → Covered m s → (o : Option Side) (p : PoolFigures) → pool m s o ≡ Ok p → p.value ≤ℤ (pos p.summed +ℤ p.allowance)
-
--- Every book has what the law wants, for every charge;
-abbrev pub BooksCovered : Type 0
-BooksCovered = (m : Meaning) (b : Book) → Covered m (view b)
-
--- and every report of its accounts keeps the law of the offset: nothing is owed exactly where the account's value is zero or a credit, and
--- otherwise the requirement value covers the value, by less than a cent of each currency still owed.
-abbrev pub BooksOffset : Type 0
-BooksOffset = (m : Meaning) (b : Book) (a : AccountRow) (r : AccountReport) → row_report m (view b) a ≡ Ok r → Law r.sums (view b).rates r.owed r.requirement

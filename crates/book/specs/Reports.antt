@@ -9,6 +9,7 @@ use Rattle.register.specs.Rows.{sought}
 use Rattle.charge.specs.Meanings.{Meaning}
 use Rattle.account.specs.declared.rule.AccountReport.{AccountReport}
 use Rattle.account.specs.Outcomes.{and_then}
+use Rattle.account.specs.Plain.{plain_report}
 use Rattle.account.specs.Rule.{account_report}
 use Rattle.book.specs.declared.rows.AccountRow.{AccountRow}
 use Rattle.book.specs.Found.{not_there, outside}
@@ -20,6 +21,10 @@ use Rattle.book.specs.State.{State}
 -- the report of a row's account, by a charge
 abbrev pub row_report : Meaning → State → AccountRow → Result AccountReport Fault
 row_report m s a = account_report m a.name a.basis s.rates s.classes s.series (counts_of s a.slot Long) (counts_of s a.slot Short)
+
+-- what a row's account comes to with no limit on any figure
+abbrev pub own_report : Meaning → State → AccountRow → AccountReport
+own_report m s a = plain_report m a.basis s.rates s.classes s.series (counts_of s a.slot Long) (counts_of s a.slot Short)
 
 -- the report of the account that was opened as the k-th; none where fewer are open
 abbrev pub nth_report : Meaning → State → ℕ → Option (Result AccountReport Fault)

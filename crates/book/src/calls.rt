@@ -1,8 +1,7 @@
 //! The calls by which a book is dealt on.
 ghost use Rattle.std.specs.Prelude.{◌≡◌, length};
 ghost use Rattle.terms.specs.Faults.{refusal};
-ghost use Rattle.book.specs.Law.{HeldIsPosted};
-ghost use Rattle.book.specs.Pool.{BooksCovered, BooksOffset, PoolLaw};
+ghost use Rattle.book.specs.Law.{BookLaw};
 ghost use Rattle.book.specs.State.{empty};
 ghost use Rattle.book.specs.View.{view};
 ghost use Rattle.book.specs.Uses.{Opening, Posting, Closing, Moving, Step, at_both};
@@ -23,7 +22,7 @@ use terms::words::{Basis, Layer, Leg, Refusal, Side};
 pub const MOST_ACCOUNTS: usize = 32;
 
 /// A fault that names account and class.
-fn at_both(refusal: Refusal, account: Name, class: Code) -> Fault
+pub(crate) fn at_both(refusal: Refusal, account: Name, class: Code) -> Fault
     ensures value { result ≡ at_both refusal account class }
 {
     Fault::new(refusal, Layer::Book)
@@ -33,13 +32,9 @@ fn at_both(refusal: Refusal, account: Name, class: Code) -> Fault
 
 impl<'s, 'a> Book<'s, 'a> {
     /// A book without accounts, over memory that may hold anything.
-    #[tactic(auto, using(crate::proofs::Conserved::held_is_posted))]
     pub fn new(sheet: Sheet<'s>, rows: &'a mut [AccountRow], counts: &'a mut [u32]) -> Book<'s, 'a>
         ensures value { view result ≡ empty sheet.entry.rates.by_number sheet.entry.classes.now sheet.entry.series.now (length rows.old) counts.old }
-        ensures law { HeldIsPosted (view result) }
-        ensures pool_law { PoolLaw }
-        ensures covered { BooksCovered }
-        ensures offset { BooksOffset }
+        ensures law { BookLaw (view result) }
     {
         Book {
             sheet,

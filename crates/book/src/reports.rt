@@ -4,6 +4,7 @@ ghost use Rattle.charge.specs.Meanings.{Meaning};
 ghost use Rattle.account.specs.Outcomes.{filled, left_in};
 ghost use Rattle.account.specs.Offset.{Law, Owable};
 ghost use Rattle.account.specs.Accounts.{report_on};
+ghost use Rattle.book.specs.Events.{Asked, Happens, Report};
 ghost use Rattle.book.specs.Reports.{OwnAlone, named_report, nth_report, row_report};
 ghost use Rattle.book.specs.View.{view};
 
@@ -27,6 +28,7 @@ impl Book<'_, '_> {
     ) -> Result<(), Fault>
         ensures answer { filled result report.new ≡ named_report (C.Charge.meaning charge.now) (view self.now) name.now }
         ensures after { report.new ≡ left_in (named_report (C.Charge.meaning charge.now) (view self.now) name.now) report.old }
+        ensures step { Happens (view self.now) (Asked (Report (C.Charge.meaning charge.now) name.now (filled result report.new))) (view self.now) }
         ensures law { OnOk result (Law report.new.sums (view self.now).rates report.new.owed report.new.requirement) }
     {
         let name = Name::try_from(name)?;
@@ -56,7 +58,7 @@ impl Book<'_, '_> {
     }
 
     /// The account of a row, with its counts, as it is margined.
-    fn account_of(&self, row: AccountRow) -> Account<'_>
+    pub(crate) fn account_of(&self, row: AccountRow) -> Account<'_>
         requires { row.slot < length (view self.now).accounts }
         ensures report { (m : Meaning) → report_on m result ≡ row_report m (view self.now) row }
         ensures rates { result.sheet.rates.by_number ≡ (view self.now).rates }
