@@ -1,50 +1,70 @@
 //! Runs each case of its input through the program's own way from an input to its figures, and prints the verdict.
 //!
 //! A case begins with `= name`. Then `|text` is a line of the case with its line feed, `+text` is text without one,
-//! and `*NNNNNNN|text` is a line so many times.
+//! and `*NNNNNNN|text` is a line so many times. Texts may have any bytes; what has no line feed is no line of the script.
 #![tactic(auto)]
 
 use closing::days::{Day, margin_day};
 use std::alloc::AllocError;
 use std::io;
 use std::io::Read;
+use std::str::from_utf8;
 use terms::words::{Currency, Side};
 
 fn main(rt: HostRuntime) -> io::Result<()> {
-    let mut script = String::new(rt.alloc());
-    rt.stdin().read_to_string(&mut script)?;
-    let lines: Vec<&str> = script.split('\n').collect(rt.alloc())?;
-    for case in lines.chunk_by(|_, next| !next.starts_with("= ")) {
-        run(&rt, case)?;
-    }
-    Ok(())
-}
-
-/// Prints the name of a case and the verdict on its input.
-fn run(rt: &HostRuntime, case: &[&str]) -> io::Result<()> {
-    let Some((name, lines)) = case.split_first() else {
-        return Ok(());
-    };
-    println!(rt; "{name}")?;
+    let mut script = Vec::new(rt.alloc());
+    rt.stdin().read_to_end(&mut script)?;
     let mut input = Vec::new(rt.alloc());
-    for line in lines {
-        add(&mut input, line)?;
+    let mut begun = false;
+    for line in script.split_inclusive(|byte| *byte == b'\n') {
+        let Some(line) = line.strip_suffix(b"\n") else {
+            break;
+        };
+        if line.starts_with(b"= ") {
+            if begun {
+                judge(&rt, input.as_slice())?;
+            }
+            input.clear();
+            begun = true;
+            name(&rt, line)?;
+        } else {
+            add(&mut input, line)?;
+        }
     }
-    judge(rt, input.as_slice())
+    judge(&rt, input.as_slice())
 }
 
-/// How many lines a line of the script stands for, and their text.
-fn repeated(line: &str) -> Option<(u32, &str)> {
-    let (times, text) = line.strip_prefix('*')?.split_once('|')?;
-    Some((times.parse().ok()?, text))
+/// Prints the name of a case, where it is text.
+fn name(rt: &HostRuntime, line: &[u8]) -> io::Result<()> {
+    match from_utf8(line) {
+        Ok(text) => println!(rt; "{text}"),
+        Err(_) => Ok(()),
+    }
+}
+
+/// The number that seven digits write.
+fn times(digits: &[u8]) -> u32 {
+    digits.iter().fold(0u32, |n, digit| {
+        n.wrapping_mul(10)
+            .wrapping_add(u32::from(digit.wrapping_sub(b'0')))
+    })
+}
+
+/// How many lines a line of the script stands for, and their text, which is not empty.
+fn repeated(line: &[u8]) -> Option<(u32, &[u8])> {
+    let rest = line.strip_prefix(b"*")?;
+    if rest.len() < 9 {
+        return None;
+    }
+    Some((times(&rest[..7]), &rest[8..]))
 }
 
 /// Adds what a line of the script stands for.
-fn add(input: &mut Vec<u8>, line: &str) -> Result<(), AllocError> {
-    if let Some(text) = line.strip_prefix('|') {
+fn add(input: &mut Vec<u8>, line: &[u8]) -> Result<(), AllocError> {
+    if let Some(text) = line.strip_prefix(b"|") {
         add_lines(input, text, 1)
-    } else if let Some(text) = line.strip_prefix('+') {
-        input.extend_from_slice(text.as_bytes())
+    } else if let Some(text) = line.strip_prefix(b"+") {
+        input.extend_from_slice(text)
     } else if let Some((times, text)) = repeated(line) {
         add_lines(input, text, times)
     } else {
@@ -53,9 +73,9 @@ fn add(input: &mut Vec<u8>, line: &str) -> Result<(), AllocError> {
 }
 
 /// Adds a line so many times.
-fn add_lines(input: &mut Vec<u8>, text: &str, times: u32) -> Result<(), AllocError> {
+fn add_lines(input: &mut Vec<u8>, text: &[u8], times: u32) -> Result<(), AllocError> {
     for _ in 0..times {
-        input.extend_from_slice(text.as_bytes())?;
+        input.extend_from_slice(text)?;
         input.push(b'\n')?;
     }
     Ok(())
