@@ -7,5 +7,6 @@ pub mod Justified
 pub mod Trims
 pub mod Rows
 pub mod Laws
-pub mod Printed
+pub mod Digits
+pub mod Lays
 pub mod Bytes
