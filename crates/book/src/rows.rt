@@ -1,8 +1,8 @@
 //! The row of an account.
-ghost use Rattle.terms.specs.Compared.{name_order};
 ghost use Rattle.terms.specs.Names.{spelled};
 
 use register::Keyed;
+use std::cmp::Ordering;
 use terms::names::Name;
 use terms::words::{Basis, Side};
 
@@ -22,9 +22,12 @@ impl Keyed for AccountRow {
 
     ghost wanted = { spelled };
 
-    ghost ordered = { name_order };
-
     fn key(&self) -> Name {
         self.name
+    }
+
+    #[tactic(auto, using(terms::specs::Compared::name_order))]
+    fn compare(&self, key: &Name) -> Ordering {
+        self.name.cmp(key)
     }
 }

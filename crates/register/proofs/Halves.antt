@@ -1,18 +1,19 @@
 -- What a search by halves finds in rows in order.
-use Rattle.std.proofs.Common.{◌≡◌, ℕ, ◌≤◌, ◌<◌, Bool, true, false, List, [], ◌∷◌, length, get_or, Ordering, Less, Equal, Greater, None, Ok, Err, Result, ◌+◌, ◌∙◌, refl, ap, sym, subst, ⊎_elim, arith}
+use Rattle.std.proofs.Common.{◌≡◌, ℕ, ◌≤◌, ◌<◌, Bool, true, false, List, [], ◌∷◌, length, get_or, Less, None, Ok, Err, Result, ◌+◌, ◌∙◌, refl, ap, sym, subst, ⊎_elim, arith}
 use Rattle.std.specs.Cmp.{nat_cmp_total}
 use Rattle.std.specs.Cmp.Lexicographic.{lists_total}
 use Rattle.std.specs.List.{prefix_len}
 use Rattle.std.specs.List.Sorted.{IsBinarySearchResult, IsNonDecreasingBy, IsPartitionPoint, IsPartitionedBy, IsSearchInRange}
 use Rattle.std.specs.Ordering.{is_lt, is_eq, ordering_index, ordering_reverse}
 use Rattle.std.specs.Result.{result_ok}
-use Rattle.std.proofs.lemmas.Bool.{cases_lt, cond-false, le-ltb, true≢false}
+use Rattle.std.proofs.lemmas.Bool.{cases_lt, cond-false, le-ltb}
 use Rattle.std.proofs.lemmas.List.Sums.{position_or_len_is, prefix_len_is}
 use Rattle.std.proofs.lemmas.List.Sorted.{searchable_from_sorted}
 use Rattle.std.proofs.lemmas.Map.Keys.{Less-from_sorted}
 use Rattle.terms.specs.Order.{order}
 use Rattle.register.specs.Rows.{place, misses, sought, Ascending}
 use Rattle.register.proofs.Search.{found_sought, same_from_order}
+use Rattle.register.proofs.Sorted.{less}
 
 -- ---- a test that no row passes after one that fails it
 module _ {R : Type 0} (p : R → Bool) where
@@ -29,11 +30,6 @@ module _ {R : Type 0} (p : R → Bool) where
         ⊎_elim (λ lt. h a b d lt within e) (λ ge. subst (λ n. p (get_or rows n d) ≡ true) {x = b} {y = a} (omega arith) e) (cases_lt a b)))
 
 -- ---- the rows before a key
-lower : (o : Ordering) → is_lt o ≡ true → o ≡ Less
-lower Less e = refl
-lower Equal e = absurd (true≢false (sym e))
-lower Greater e = absurd (true≢false (sym e))
-
 module _ {R : Type 0} (rank : R → List ℕ) (k : List ℕ) (rows : List R) (up : Ascending rank rows) where
   in_order : (a b : ℕ) (d : R) → a < b → b < length rows → order (rank (get_or rows a d)) (rank (get_or rows b d)) ≡ Less
   in_order a b d lt within = Less-from_sorted (λ x y. order (rank x) (rank y)) rows a b d up lt within
@@ -42,7 +38,7 @@ module _ {R : Type 0} (rank : R → List ℕ) (k : List ℕ) (rows : List R) (up
   below x = is_lt (order (rank x) k)
 
   pub place_counted : (i : ℕ) → i ≤ length rows → (IsPartitionedBy below rows → IsPartitionPoint (λ x. below x ≡ true) (λ x. below x ≡ false) rows i) → i ≡ place rank k rows
-  place_counted i le point = front_counted below rows i le point (λ a b d lt within e. ap is_lt ((lists_total nat_cmp_total).trans _ _ k (in_order a b d lt within) (lower _ e)))
+  place_counted i le point = front_counted below rows i le point (λ a b d lt within e. ap is_lt ((lists_total nat_cmp_total).trans _ _ k (in_order a b d lt within) (less _ e)))
 
   ranks_rise : IsNonDecreasingBy (λ x. ordering_index (order (rank x) k)) rows
   ranks_rise = searchable_from_sorted (lists_total nat_cmp_total) rank rows k (λ i d low within.

@@ -4,13 +4,13 @@ use Rattle.std.specs.Borrow.{MutBor}
 use Rattle.register.specs.declared.Register.{Register}
 
 -- the loan of the memory for its rows
-abbrev pub loan : {R K : Type 0} {k : _} {o : _} {e : _} {p : _} → Register R K k o e p → MutBor (List R)
+abbrev pub loan : {R K : Type 0} {k : _} → Register R K k → MutBor (List R)
 loan r = r.rows
 
 -- that memory
-abbrev pub lent : {R K : Type 0} {k : _} {o : _} {e : _} {p : _} → Register R K k o e p → List R
+abbrev pub lent : {R K : Type 0} {k : _} → Register R K k → List R
 lent r = (loan r).now
 
 -- its rows: the first of that memory
-abbrev pub held : {R K : Type 0} {k : _} {o : _} {e : _} {p : _} → Register R K k o e p → List R
+abbrev pub held : {R K : Type 0} {k : _} → Register R K k → List R
 held r = take r.len (lent r)

@@ -1,10 +1,11 @@
 -- Rows in ascending order of their rank, a list of numbers.
-use Rattle.std.specs.Prelude.{◌≡◌, ℕ, suc, ◌<◌, ◌≤◌, min, cond, not, List, length, drop, is_some, Some, None, Ok, Err, Option, Result, ◌≢◌, nat_lt, slice_index_or}
+use Rattle.std.specs.Prelude.{◌≡◌, ◌&&◌, Bool, true, [], ℕ, suc, ◌<◌, ◌≤◌, min, cond, not, List, ◌∷◌, length, drop, is_some, Some, None, Ok, Err, Option, Result, ◌≢◌, nat_lt, slice_index_or}
 use Rattle.terms.specs.declared.words.Refusal.{Refusal}
 use Rattle.terms.specs.declared.words.Refusal.TheVariants.{Twice, Full}
 use Rattle.terms.specs.Order.{order}
+use Rattle.std.specs.declared.cmp.Ordering.{Ordering}
 use Rattle.std.specs.Ordering.{is_lt, is_eq}
-use Rattle.std.specs.List.{insert, prefix_len}
+use Rattle.std.specs.List.{insert, list_all, prefix_len}
 use Rattle.std.specs.List.Sorted.{IsStrictlySortedBy, IsStrictlySortedBy-prop}
 
 -- each row is before those after it
@@ -13,6 +14,11 @@ Ascending rank rows = IsStrictlySortedBy (λ a b. order (rank a) (rank b)) rows
 
 pub Ascending-prop : {R : Type 0} (rank : R → List ℕ) (rows : List R) → IsProp (Ascending rank rows)
 Ascending-prop rank rows = IsStrictlySortedBy-prop (λ a b. order (rank a) (rank b)) rows
+
+-- whether each element is below those after it: the test of that fact
+abbrev pub is_strictly_sorted_by : {K : Type 0} → (K → K → Ordering) → List K → Bool
+is_strictly_sorted_by c [] = true
+is_strictly_sorted_by c (x ∷ xs) = list_all (λ y. is_lt (c x y)) xs && is_strictly_sorted_by c xs
 
 -- how many rows stand before the key: where a row with this key has its place
 abbrev pub place : {R : Type 0} → (R → List ℕ) → List ℕ → List R → ℕ

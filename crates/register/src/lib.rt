@@ -1,16 +1,17 @@
 //! Rows in ascending order of key, in memory that the caller lends.
 #![tactic(auto)]
 
-ghost use Rattle.std.specs.Prelude.{◌≡◌, ℕ, ◌+◌, ◌<◌, ◌≤◌, min, List, [], ◌++◌, length, take, drop, nat_lt};
+ghost use Rattle.std.specs.Prelude.{◌≡◌, ℕ, ◌+◌, ◌<◌, ◌≤◌, min, Decides, List, [], ◌++◌, length, take, drop, nat_lt};
 ghost use Rattle.std.specs.List.{insert, slice_get};
 ghost use Rattle.terms.specs.Order.{order};
-ghost use Rattle.register.specs.Rows.{sought, place, Ascending, Ascending-prop, Entry, Found};
+ghost use Rattle.register.specs.Rows.{sought, place, is_strictly_sorted_by, Ascending, Ascending-prop, Entry, Found};
 
+use std::cmp::Ordering;
 use terms::words::Refusal;
 
 /// A row that is found by its key; its rank is the key as a list of numbers, by which rows are ordered.
 pub trait Keyed: Copy {
-    type Key: Ord + Copy;
+    type Key: Copy;
 
     ghost rank: { Self → List ℕ };
 
@@ -19,8 +20,8 @@ pub trait Keyed: Copy {
     fn key(&self) -> Self::Key
         ensures value { wanted result ≡ rank self.now };
 
-    /// Keys compare as their numbers do.
-    ghost ordered: { (a b : Self.Key) → Self.Key.cmp a b ≡ order (wanted a) (wanted b) };
+    fn compare(&self, key: &Self::Key) -> Ordering
+        ensures value { result ≡ order (rank self.now) (wanted key.now) };
 }
 
 /// The first `len` of the lent rows are the register's, in order of their keys; the memory past them is the lender's.
@@ -112,7 +113,7 @@ impl<'a, R: Keyed> Register<'a, R> {
 pub fn place_with<R: Keyed>(rows: &[R], key: &R::Key) -> Option<usize>
     ensures value { result ≡ sought R.rank (R.wanted key.now) rows.now }
 {
-    rows.iter().position(|row| row.key() == *key)
+    rows.iter().position(|row| row.compare(key).is_eq())
 }
 
 /// The place of the row that has the key, in rows that are in order: a slice cannot carry this, so it is for our own crates alone.
@@ -120,7 +121,16 @@ pub fn place_in_order<R: Keyed>(rows: &[R], key: &R::Key) -> Option<usize>
     requires { Ascending R.rank rows.now }
     ensures value { result ≡ sought R.rank (R.wanted key.now) rows.now }
 {
-    rows.binary_search_by(|row| row.key().cmp(key)).ok()
+    rows.binary_search_by(|row| row.compare(key)).ok()
+}
+
+/// Whether the rows are in order: what `place_in_order` asks for, of rows from elsewhere.
+// Nothing here calls it: it stands for who has rows in a plain slice.
+pub fn in_order<R: Keyed>(rows: &[R]) -> bool
+    ensures answer { result ≡ is_strictly_sorted_by (λ a b. order (R.rank a) (R.rank b)) rows.now }
+    ensures means { Decides result (Ascending R.rank rows.now) }
+{
+    rows.is_sorted_by(|row, next| row.compare(&next.key()).is_lt())
 }
 
 /// How many rows stand before the key.
@@ -128,7 +138,7 @@ fn place_of<R: Keyed>(rows: &[R], key: &R::Key) -> usize
     requires { Ascending R.rank rows.now }
     ensures value { result ≡ place R.rank (R.wanted key.now) rows.now }
 {
-    rows.partition_point(|row| row.key() < *key)
+    rows.partition_point(|row| row.compare(key).is_lt())
 }
 
 /// Moves each row from `at` to `len` up by one, and writes the new one there.

@@ -1,9 +1,9 @@
 //! The rows of the sheet, each found by its key, and a series as it is listed.
 ghost use Rattle.terms.specs.Codes.{lettered};
-ghost use Rattle.terms.specs.Compared.{code_order, key_order};
 ghost use Rattle.terms.specs.Keys.{figured};
 
 use register::Keyed;
+use std::cmp::Ordering;
 use terms::codes::Code;
 use terms::keys::{AskedKey, SeriesKey};
 use terms::words::Currency;
@@ -43,10 +43,13 @@ impl Keyed for ClassRow {
 
     ghost wanted = { lettered };
 
-    ghost ordered = { code_order };
-
     fn key(&self) -> Code {
         self.code
+    }
+
+    #[tactic(auto, using(terms::specs::Compared::code_order))]
+    fn compare(&self, key: &Code) -> Ordering {
+        self.code.cmp(key)
     }
 }
 
@@ -57,9 +60,12 @@ impl Keyed for Series {
 
     ghost wanted = { figured };
 
-    ghost ordered = { key_order };
-
     fn key(&self) -> SeriesKey {
         self.key
+    }
+
+    #[tactic(auto, using(terms::specs::Compared::key_order))]
+    fn compare(&self, key: &SeriesKey) -> Ordering {
+        self.key.cmp(key)
     }
 }
