@@ -11,6 +11,7 @@ use crate::words::{Currency, Label, Layer, Refusal};
 use std::error::Error;
 use std::fmt;
 use std::fmt::Write;
+use std::str::from_utf8;
 
 /// What is at fault: each part is blank where nothing of its kind is.
 #[derive(Clone, Copy, PartialEq, Eq, Debug)]
@@ -119,14 +120,23 @@ impl From<OutsideLimits> for Fault {
     }
 }
 
+/// A text after its word, without blanks at its right, where it can be shown: a sentence goes on without a part that is no text.
+fn fmt_text<W: fmt::Write>(f: &mut fmt::Formatter<W>, word: &str, bytes: &[u8]) -> fmt::Result {
+    if let Ok(text) = from_utf8(bytes) {
+        let shown = text.trim_end();
+        write!(f, "; {word} {shown}")?;
+    }
+    Ok(())
+}
+
 /// What is at fault, each part after its word.
 impl fmt::Display for Place {
     fn fmt<W: fmt::Write>(&self, f: &mut fmt::Formatter<W>) -> fmt::Result {
         if let Some(account) = self.account {
-            write!(f, "; account {account}")?;
+            fmt_text(f, "account", &account.text)?;
         }
         if let Some(class) = self.class {
-            write!(f, "; class {class}")?;
+            fmt_text(f, "class", &[class.first, class.second, class.third])?;
         }
         if let Some(currency) = self.currency {
             write!(f, "; currency {currency}")?;
