@@ -1,3 +1,4 @@
 pub mod Records
 pub mod Deposits
 pub mod Requirements
+pub mod Blanks

@@ -2,7 +2,6 @@
 ghost use Rattle.std.specs.Prelude.{◌≡◌, ℕ, ◌<◌, ◌≤◌, [], ◌∷◌, ◌++◌, length, replicate, slice_index};
 ghost use Rattle.collateral.specs.declared.statements.TheConstants.{OWED_LIMIT};
 
-use arrayvec::ArrayVec;
 use std::marker::Model;
 use terms::names::Name;
 use terms::words::Side;
@@ -24,6 +23,17 @@ impl Default for Statement {
     ghost is_default = { λ s. s.owed ≡ replicate 5 0 };
 
     fn default() -> Statement {
+        Statement::unused()
+    }
+}
+
+impl Statement {
+    ghost use Rattle.collateral.specs.Blanks.{blank};
+
+    /// The one value that every unused place of the list has.
+    fn unused() -> Statement
+        ensures value { result ≡ blank }
+    {
         Statement {
             name: Name { text: [b' '; 20] },
             side: Side::Client,
@@ -33,18 +43,27 @@ impl Default for Statement {
 }
 
 /// The statements of a book's accounts, in opening order.
-#[derive(Drop)]
+// An array that knows its length cannot be copied whole: `Copy`. So the places behind the count are alike, and the list alone tells the fields.
+#[derive(Clone, Copy)]
 pub struct Statements {
-    rows: ArrayVec<Statement, 32>,
+    rows: [Statement; 32],
+    count: usize,
 }
 
 impl Model for Statements {
-    ghost use Rattle.std.specs.Prelude.{List};
+    ghost use Rattle.std.specs.Prelude.{List, ◌≡◌, ◌≤◌, ◌-◌, ◌++◌, length, take, drop, replicate};
     ghost use Rattle.collateral.specs.declared.statements.Statement.{Statement};
+    ghost use Rattle.collateral.specs.Blanks.{blank, filled_up, counted};
 
     ghost Value = { List Statement };
 
-    ghost view = { λ s. s.rows.items };
+    ghost view = { λ s. take s.count s.rows };
+
+    ghost invariant = { λ s. (s.count ≤ 32) × (length s.rows ≡ 32) × (drop s.count s.rows ≡ replicate (32 - s.count) blank) };
+
+    ghost inverse = { λ xs. record { rows = xs ++ replicate (32 - length xs) blank; count = length xs } };
+
+    ghost inverse_ok = { λ s h i. record { rows = filled_up s.count s.rows h i; count = counted s.count s.rows h i } };
 }
 
 impl Statements {
@@ -53,7 +72,8 @@ impl Statements {
         ensures none { result ≡ [] }
     {
         Statements {
-            rows: ArrayVec::new(),
+            rows: [Statement::unused(); 32],
+            count: 0,
         }
     }
 
@@ -63,7 +83,8 @@ impl Statements {
         requires room { length self.old < 32 }
         ensures after { self.new ≡ self.old ++ statement ∷ [] }
     {
-        self.rows.push(statement);
+        self.rows[self.count] = statement;
+        self.count += 1;
     }
 
     /// The statements, to be read.
@@ -71,6 +92,6 @@ impl Statements {
         ensures value { result.now ≡ self.now }
         ensures bound { length result.now ≤ 32 }
     {
-        self.rows.as_slice()
+        &self.rows[..self.count]
     }
 }
