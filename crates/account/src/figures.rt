@@ -30,9 +30,10 @@ impl MarginedCounts<'_> {
         let account = self.account;
         let code = account.sheet.class_row(i).code;
         let class = account.sheet.class(i);
+        let span = account.sheet.span(i);
         let position = Position {
             class: &class,
-            counts: &self.counts[account.sheet.span(i)],
+            counts: &self.counts[span.from..span.to],
         };
         position_figure(charge, &position, account.basis).map_err(|fault| fault
             .with_account(account.name)

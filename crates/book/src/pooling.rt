@@ -107,9 +107,10 @@ impl Book<'_, '_> {
         let shorts = self.counts(row.slot, Leg::Short);
         margin_counts(row.basis, longs, shorts, counts);
         let class = self.sheet.class(i);
+        let span = self.sheet.span(i);
         let own = Position {
             class: &class,
-            counts: &counts[self.sheet.span(i)],
+            counts: &counts[span.from..span.to],
         };
         join(charge, &own, row.basis, position)
     }

@@ -4,17 +4,23 @@ ghost use Rattle.register.specs.Rows.{Ascending};
 ghost use Rattle.sheet.specs.Rows.{series_rank, of_class, Spanned};
 
 use crate::rows::Series;
-use std::ops::Range;
 use terms::codes::Code;
 
+/// From one place up to, and without, another.
+#[derive(Clone, Copy)]
+pub struct Span {
+    pub from: usize,
+    pub to: usize,
+}
+
 /// Where the series of the class stand: together, since rows are in order of class first.
-pub(crate) fn span_of(rows: &[Series], code: &Code) -> Range<usize>
+pub(crate) fn span_of(rows: &[Series], code: &Code) -> Span
     requires { Ascending series_rank rows.now }
-    ensures value { Spanned code.now rows.now result.start result.end }
+    ensures value { Spanned code.now rows.now result.from result.to }
 {
-    let start = rows.partition_point(|row| row.key.class < *code);
-    let end = rows.partition_point(|row| row.key.class <= *code);
-    start..end
+    let from = rows.partition_point(|row| row.key.class < *code);
+    let to = rows.partition_point(|row| row.key.class <= *code);
+    Span { from, to }
 }
 
 /// The series of the class.
@@ -22,5 +28,6 @@ pub(crate) fn part<'a>(rows: &'a [Series], code: &Code) -> &'a [Series]
     requires { Ascending series_rank rows.now }
     ensures value { result.now ≡ of_class code.now rows.now }
 {
-    &rows[span_of(rows, code)]
+    let span = span_of(rows, code);
+    &rows[span.from..span.to]
 }

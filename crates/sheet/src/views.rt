@@ -10,12 +10,11 @@ ghost use Rattle.sheet.specs.Plain.{plain};
 ghost use Rattle.sheet.specs.Rows.{Spanned, class_rank, series_rank};
 
 use crate::classes::Class;
-use crate::ranges::{part, span_of};
+use crate::ranges::{Span, part, span_of};
 use crate::rates::Rates;
 use crate::rows::ClassRow;
 use crate::sheets::Sheet;
 use register::place_in_order;
-use std::ops::Range;
 use terms::codes::Code;
 use terms::keys::SeriesKey;
 use terms::words::Currency;
@@ -99,9 +98,9 @@ impl<'a> Sheet<'a> {
     }
 
     /// Where the series of the class at a place stand.
-    pub fn span(&self, i: usize) -> Range<usize>
+    pub fn span(&self, i: usize) -> Span
         requires { i < length self.now.classes.now }
-        ensures value { Spanned (class_at self.now.classes.now i).code self.now.series.now result.start result.end }
+        ensures value { Spanned (class_at self.now.classes.now i).code self.now.series.now result.from result.to }
     {
         span_of(self.series, &self.classes[i].code)
     }

@@ -10,12 +10,12 @@ use Rattle.account.proofs.figures.MarginedCounts.figure_at.Goals as goal
 pub invariant_of-position : goal.invariant_of-position
 invariant_of-position g c =
     let self = c.args.self.now in
-    let s = c.span.ensures.value in
+    let s = c.span-span.ensures.value in
     let rows = s.series ∙ sym (ap (λ (t : Terms). t.rows) c.class-class.ensures.value) in
     record {
       fits_class = small_fits_class _ _
-          (each_of_part self.counts.now self.account.sheet.series.now c.class-class.result.series.now c.span.result.start c.span.result.end s.ordered s.within self.each rows)
-          (small_part self.counts.now c.span.result.start c.span.result.end self.small);
+          (each_of_part self.counts.now self.account.sheet.series.now c.class-class.result.series.now c.span-span.result.from c.span-span.result.to s.ordered s.within self.each rows)
+          (small_part self.counts.now c.span-span.result.from c.span-span.result.to self.small);
     }
 
 pub returns-clause-answer : goal.returns-clause-answer
@@ -26,4 +26,4 @@ returns-clause-answer g c =
     let coded = ap (λ (r : ClassRow). r.code) c.class_row.ensures.value in
     handed name code c.position_figure.result c.map_err.result c.map_err.ensures.cases (λ e f h. search rules)
     ∙ ap (handed_up name code) c.position_figure.ensures.answer
-    ∙ figure_moved name code (g.C.Charge.meaning c.args.charge.now) self.account.basis (plain c.class-class.result) _ _ _ _ coded c.class-class.ensures.value (c.span.ensures.value.counts self.counts.now self.each)
+    ∙ figure_moved name code (g.C.Charge.meaning c.args.charge.now) self.account.basis (plain c.class-class.result) _ _ _ _ coded c.class-class.ensures.value (c.span-span.ensures.value.counts self.counts.now self.each)

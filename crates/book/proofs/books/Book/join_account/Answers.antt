@@ -14,8 +14,8 @@ invariant_of-own g c =
     let shorts = c.counts-shorts in
     let there = c.requires.open in
     record {
-      fits_class = class_counts_fit (class_at s.classes c.args.i).code s.series c.span.result.start c.span.result.end c.args.row.basis longs.result.now shorts.result.now
-          c.span.ensures.value (longs.ensures.all there) (shorts.ensures.all there) (λ k. (longs.ensures.bound k, shorts.ensures.bound k))
+      fits_class = class_counts_fit (class_at s.classes c.args.i).code s.series c.span-span.result.from c.span-span.result.to c.args.row.basis longs.result.now shorts.result.now
+          c.span-span.ensures.value (longs.ensures.all there) (shorts.ensures.all there) (λ k. (longs.ensures.bound k, shorts.ensures.bound k))
           c.margin_counts.new.counts c.class-class.result.series.now c.margin_counts.ensures.after (ap (λ (t : Terms). t.rows) c.class-class.ensures.value);
     }
 
@@ -28,5 +28,5 @@ returns-clause-counts g c =
     let there = c.requires.open in
     let is : counts_in s k c.args.row ≡ beside k.code s.series (margined_counts c.args.row.basis longs.result.now shorts.result.now) = rw (longs.ensures.value, shorts.ensures.value) refl in
     subst (Counted k.code s.series) (sym is)
-    (counted k.code s.series c.span.result.start c.span.result.end c.args.row.basis longs.result.now shorts.result.now
-    c.span.ensures.value (longs.ensures.all there) (shorts.ensures.all there) (λ k. (longs.ensures.bound k, shorts.ensures.bound k)))
+    (counted k.code s.series c.span-span.result.from c.span-span.result.to c.args.row.basis longs.result.now shorts.result.now
+    c.span-span.ensures.value (longs.ensures.all there) (shorts.ensures.all there) (λ k. (longs.ensures.bound k, shorts.ensures.bound k)))
