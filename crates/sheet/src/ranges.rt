@@ -1,7 +1,7 @@
 //! Where the series of a class stand.
 ghost use Rattle.std.specs.Prelude.{◌≡◌};
 ghost use Rattle.register.specs.Rows.{Ascending};
-ghost use Rattle.sheet.specs.Rows.{series_rank, of_class, Spanned};
+ghost use Rattle.sheet.specs.Rows.{series_rank, before_class, through_class, of_class, Spanned};
 
 use crate::rows::Series;
 use terms::codes::Code;
@@ -17,6 +17,8 @@ pub struct Span {
 pub(crate) fn span_of(rows: &[Series], code: &Code) -> Span
     requires { Ascending series_rank rows.now }
     ensures value { Spanned code.now rows.now result.from result.to }
+    ensures first { result.from ≡ before_class code.now rows.now }
+    ensures end { result.to ≡ through_class code.now rows.now }
 {
     let from = rows.partition_point(|row| row.key.class < *code);
     let to = rows.partition_point(|row| row.key.class <= *code);
