@@ -47,6 +47,11 @@ module _ (m : Meaning) (sheet : Sheet) (name : Name) (b : Basis) (longs shorts :
       let made : report_of t.0.figures t.0.sums sheet.rates.by_number ≡ report = cc in
       (f.0, s.0, s.1, rw (← same) at made)
 
+  pub report_lawful : Law report.sums sheet.rates.by_number report.owed report.requirement
+  report_lawful =
+      let r = report_from in
+      rw (← r.3) (law r.1 sheet.rates.by_number (limits_on sheet name r.0 r.1 sheet.rates.by_number refl (sym r.2)).rated)
+
   pub report_owable : Owable report.owed
   report_owable =
       let r = report_from in
