@@ -2,7 +2,7 @@
 ghost use Rattle.std.specs.Prelude.{◌≡◌, ◌&&◌, true, length, IfOk};
 ghost use Rattle.std.specs.Result.{result_map_both};
 ghost use Rattle.charge.specs.Positions.{fits};
-ghost use Rattle.charge.specs.Answers.{answer, judged, limited};
+ghost use Rattle.charge.specs.Answers.{answer, judged, limited, outside as outsideOf};
 
 use sheet::classes::Class;
 use terms::faults::Fault;
@@ -22,6 +22,13 @@ pub struct Position<'a> {
     ghost fits_class: { fits (length class.now.series.now) counts.now ≡ true },
 }
 
+/// The fault of a position outside its limits, with the label of the charge that refuses it.
+pub fn outside(label: Label) -> Fault
+    ensures value { result ≡ outsideOf label }
+{
+    Fault::new(Refusal::Limit, Layer::Charge).with_label(label)
+}
+
 /// Whether the counts are a position of the class.
 pub fn fitting(class: &Class, counts: &[i64]) -> bool
     ensures value { result ≡ fits (length class.now.series.now) counts.now }
@@ -30,6 +37,13 @@ pub fn fitting(class: &Class, counts: &[i64]) -> bool
         && counts
             .iter()
             .all(|count| count.unsigned_abs() <= COUNT_LIMIT)
+}
+
+/// Whether both are positions of the class.
+pub fn both_fitting(class: &Class, one: &[i64], other: &[i64]) -> bool
+    ensures value { result ≡ (fits (length class.now.series.now) one.now && fits (length class.now.series.now) other.now) }
+{
+    fitting(class, one) && fitting(class, other)
 }
 
 impl<'a> Position<'a> {
@@ -44,7 +58,7 @@ impl<'a> Position<'a> {
         ensures counts { IfOk result (λ p. p.counts.now ≡ counts.now) }
     {
         if !fitting(class, counts) {
-            return Err(Fault::new(Refusal::Limit, Layer::Charge).with_label(label));
+            return Err(outside(label));
         }
         Ok(Position { class, counts })
     }
