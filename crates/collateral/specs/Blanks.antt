@@ -1,12 +1,16 @@
 -- The places of a list of statements that no account has yet, all alike: the list tells what the whole array holds.
 use Rattle.std.specs.Prelude.{◌≡◌, ◌≤◌, ◌-◌, ◌++◌, ℕ, List, ◌+◌, ◌<◌, length, take, drop, replicate, slice_index, slice_set}
-use Rattle.std.proofs.Common.{sym, ap, ◌∙◌, arith, rules, length-take-le, take-append-drop, length-set, drop-set-lt, drop-drop}
-use Rattle.std.proofs.lemmas.List.{drop-replicate}
+use Rattle.std.proofs.Common.{sym, ap, ◌∙◌, ⊎_elim, arith, length-take-le, take-append-drop, length-set, drop-set-lt, drop-drop}
+use Rattle.std.proofs.lemmas.Bool.{cases_lt}
+use Rattle.std.proofs.lemmas.List.{drop-replicate, length-replicate, get_or-replicate, get_or_past}
 use Rattle.terms.specs.declared.words.Side.TheVariants.{Client}
 use Rattle.collateral.specs.declared.statements.Statement.{Statement}
 
 pub nothing_owed : (k : ℕ) → slice_index (replicate 5 0) k ≤ 100000000000
-nothing_owed k = search rules
+nothing_owed k = ⊎_elim
+    (λ (inside : k < 5). omega (arith, get_or-replicate {A = ℕ} 5 k 0 0 inside))
+    (λ (past : 5 ≤ k). omega (arith, get_or_past {X = ℕ} (replicate 5 0) k 0 (omega (arith, length-replicate {A = ℕ} 5 0, past))))
+    (cases_lt k 5)
 
 abbrev pub blank : Statement
 blank = record { name = record { text = replicate 20 32 }; side = Client; owed = replicate 5 0; modest = nothing_owed }
