@@ -1,8 +1,8 @@
 -- The places of a list of statements that no account has yet, all alike: the list tells what the whole array holds.
-use Rattle.std.specs.Prelude.{◌≡◌, ◌≤◌, ◌-◌, ◌++◌, ℕ, List, ◌+◌, ◌<◌, length, take, drop, replicate, slice_index, slice_set}
-use Rattle.std.proofs.Common.{sym, ap, ◌∙◌, ⊎_elim, arith, length-take-le, take-append-drop, length-set, drop-set-lt, drop-drop}
+use Rattle.std.specs.Prelude.{◌≡◌, ◌≤◌, ◌-◌, ◌++◌, ℕ, List, ◌<◌, length, take, drop, replicate, slice_index}
+use Rattle.std.proofs.Common.{sym, ap, ◌∙◌, ⊎_elim, arith, length-take-le, take-append-drop}
 use Rattle.std.proofs.lemmas.Bool.{cases_lt}
-use Rattle.std.proofs.lemmas.List.{drop-replicate, length-replicate, get_or-replicate, get_or_past}
+use Rattle.std.proofs.lemmas.List.{length-replicate, get_or-replicate, get_or_past}
 use Rattle.terms.specs.declared.words.Side.TheVariants.{Client}
 use Rattle.collateral.specs.declared.statements.Statement.{Statement}
 
@@ -24,9 +24,3 @@ counted n rows h = length-take-le n rows (omega (arith, h.0, h.1))
 
 pub filled_up : (n : ℕ) (rows : List Statement) → Kept n rows → take n rows ++ replicate (32 - length (take n rows)) blank ≡ rows
 filled_up n rows h = ap (λ k. take n rows ++ replicate (32 - k) blank) (counted n rows h) ∙ ap (λ ys. take n rows ++ ys) (sym h.2) ∙ take-append-drop n rows
-
-pub one_more : (n : ℕ) (rows : List Statement) (a : Statement) → Kept n rows → n < 32 → Kept (n + 1) (slice_set rows n a)
-one_more n rows a h lt =
-    let fewer : 32 - n - 1 ≡ 32 - (n + 1) = omega arith in
-    let left = drop-set-lt (n + 1) rows n a (omega arith) ∙ sym (drop-drop 1 n rows) ∙ ap (drop 1) h.2 ∙ drop-replicate 1 (32 - n) blank ∙ ap (λ k. replicate k blank) fewer in
-    (omega (arith, lt), length-set rows n a ∙ h.1, left)

@@ -1,5 +1,5 @@
 //! What each account owes at the close.
-ghost use Rattle.std.specs.Prelude.{◌≡◌, ℕ, ◌<◌, ◌≤◌, [], ◌∷◌, ◌++◌, length, replicate, slice_index};
+ghost use Rattle.std.specs.Prelude.{◌≡◌, ℕ, ◌<◌, ◌≤◌, [], ◌∷◌, ◌++◌, length, slice_index};
 ghost use Rattle.collateral.specs.declared.statements.TheConstants.{OWED_LIMIT};
 
 use std::marker::Model;
@@ -20,20 +20,11 @@ pub struct Statement {
 
 /// What a place of the list holds where no account has a statement yet.
 impl Default for Statement {
-    ghost is_default = { λ s. s.owed ≡ replicate 5 0 };
-
-    fn default() -> Statement {
-        Statement::unused()
-    }
-}
-
-impl Statement {
     ghost use Rattle.collateral.specs.Blanks.{blank};
 
-    /// The one value that every unused place of the list has.
-    fn unused() -> Statement
-        ensures value { result ≡ blank }
-    {
+    ghost is_default = { λ s. s ≡ blank };
+
+    fn default() -> Statement {
         Statement {
             name: Name { text: [b' '; 20] },
             side: Side::Client,
@@ -51,15 +42,15 @@ pub struct Statements {
 }
 
 impl Model for Statements {
-    ghost use Rattle.std.specs.Prelude.{List, ◌≡◌, ◌≤◌, ◌-◌, ◌++◌, length, take, drop, replicate};
+    ghost use Rattle.std.specs.Prelude.{List, ◌-◌, ◌++◌, length, take, replicate};
     ghost use Rattle.collateral.specs.declared.statements.Statement.{Statement};
-    ghost use Rattle.collateral.specs.Blanks.{blank, filled_up, counted};
+    ghost use Rattle.collateral.specs.Blanks.{Kept, blank, filled_up, counted};
 
     ghost Value = { List Statement };
 
     ghost view = { λ s. take s.count s.rows };
 
-    ghost invariant = { λ s. (s.count ≤ 32) × (length s.rows ≡ 32) × (drop s.count s.rows ≡ replicate (32 - s.count) blank) };
+    ghost invariant = { λ s. Kept s.count s.rows };
 
     ghost inverse = { λ xs. record { rows = xs ++ replicate (32 - length xs) blank; count = length xs } };
 
@@ -72,7 +63,7 @@ impl Statements {
         ensures none { result ≡ [] }
     {
         Statements {
-            rows: [Statement::unused(); 32],
+            rows: [Statement::default(); 32],
             count: 0,
         }
     }

@@ -1,5 +1,6 @@
 use Rattle.std.proofs.Common.{rules, ◌<◌}
-use Rattle.collateral.specs.Blanks.{counted, one_more}
+use Rattle.collateral.specs.Blanks.{counted}
+use Rattle.collateral.proofs.Filled.{one_more}
 use Rattle.collateral.proofs.statements.Statements.push.Goals as goal
 
 pub invariant_of-self : goal.invariant_of-self
