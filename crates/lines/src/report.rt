@@ -86,6 +86,8 @@ fn put_figure(out: &mut [u8], at: usize, figure: u64)
     put_field(out, at, &field);
 }
 
+// The three below ask that each figure fits its column, which a plain number cannot carry; the lines above carry it, and hand it on.
+
 /// K: what an account owes in a currency. A line is put from its end, each field before what follows it.
 pub fn put_owed(out: &mut [u8; 41], name: &Name, currency: Currency, owed: u64)
     requires { owed < 10 ^ 13 }
